@@ -15,7 +15,7 @@ use Rattle.craq_seat.specs.Books.{IsBook, book_step, first_master, members_of}
 use Rattle.craq_seat.specs.Cells.{Celled}
 use Rattle.craq_seat.specs.Journal.{Stands}
 use Rattle.craq_merge.proofs.Counts.{count, count_cons, distinct_once, is_counted, none_is_zero}
-use Rattle.craq_merge.proofs.Orders.{IsIn, all_by, all_in, from_contains, in_either, in_left, in_right, to_contains}
+use Rattle.craq_causality.proofs.Orders.{IsIn, all_by, all_in, from_contains, in_either, in_left, in_right, to_contains}
 use Rattle.craq_merge.proofs.Used.{AreUsed, are_used}
 use Rattle.craq_audit.specs.Chained.{HasCell, HaveIds, IsOfChain}
 use Rattle.craq_audit.specs.Journals.{journals_of, records_in}

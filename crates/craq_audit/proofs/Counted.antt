@@ -6,8 +6,9 @@ use Rattle.std.specs.List.Sorted.{IsPartitionPoint, IsPartitionedBy}
 use Rattle.craq_model.specs.declared.message.LinkMessage.{LinkMessage}
 use Rattle.craq_runs.specs.Chain.{sent_in}
 use Rattle.craq_seat.specs.Merge.{AreInOrder, IsBefore, MergedStep, number_among}
-use Rattle.craq_merge.proofs.Numbers.{all_sent, first_is, not_first}
-use Rattle.craq_merge.proofs.Orders.{AreRising, IsIn, all_in, from_contains, rising}
+use Rattle.craq_causality.proofs.Numbers.{all_sent, first_is, not_first}
+use Rattle.craq_causality.proofs.Orders.{IsIn, all_in, from_contains}
+use Rattle.craq_merge.proofs.Orders.{AreRising, apart_by_stamp, rising}
 use Rattle.craq_audit.specs.Lines.{IsSentIn, sums_from}
 
 -- the line precedes the sending of the message
@@ -61,7 +62,7 @@ number before zero (d ∷ ds) m s r (inr i) e f low high =
 number before (suc k) (d ∷ ds) m s r (inr i) e f low high =
     let long : ℕ = length (sent_in d.step.outs) in
     let t = number (before + long) k ds m s r.1 i e f (λ j x a b. low (suc j) x (omega arith) (omega (arith, b))) (λ j x a b. high (suc j) x (omega (arith, a)) (omega (arith, b))) in
-    let n : number_among (d ∷ ds) m ≡ long + number_among ds m = not_first d s ds m (all_in (IsBefore d) ds s r.0 i) e f in
+    let n : number_among (d ∷ ds) m ≡ long + number_among ds m = not_first d s ds m (apart_by_stamp d s (all_in (IsBefore d) ds s r.0 i)) e f in
     let within = t.0 in
     let is = t.1 in
     (omega (arith, within), omega (arith, is, n))
@@ -75,7 +76,7 @@ bounded (d ∷ ds) m s r (inl x) e f less =
     let all = length-append (sent_in d.step.outs) (all_sent ds) in
     omega (arith, n, own, all)
 bounded (d ∷ ds) m s r (inr i) e f less =
-    let n = not_first d s ds m (all_in (IsBefore d) ds s r.0 i) e f in
+    let n = not_first d s ds m (apart_by_stamp d s (all_in (IsBefore d) ds s r.0 i)) e f in
     let t = bounded ds m s r.1 i e f less in
     let all = length-append (sent_in d.step.outs) (all_sent ds) in
     omega (arith, n, t, all)

@@ -13,7 +13,7 @@ use Rattle.craq_runs.specs.Valid.{IsExplained, IsValid, OnlyGrows, answer_name, 
 use Rattle.craq_seat.specs.Calls.{Called}
 use Rattle.craq_seat.specs.Merge.{Journals, MergedStep, run_of}
 use Rattle.craq_merge.specs.Within.{IsWithin, run_answer_of_call, ask_of_call}
-use Rattle.craq_merge.proofs.Orders.{IsIn, all_in, from_contains, to_contains}
+use Rattle.craq_causality.proofs.Orders.{IsIn, all_in, from_contains, to_contains}
 use Rattle.craq_merge.proofs.Positions.{no_older}
 use Rattle.craq_audit.specs.Audited.{IsAudited}
 use Rattle.craq_audit.specs.Places.{IsPlaceOf}

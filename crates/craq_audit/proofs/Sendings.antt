@@ -17,7 +17,7 @@ use Rattle.craq_seat.specs.Cells.{Celled}
 use Rattle.craq_seat.specs.Merge.{AtMaster, AtNode, Happening, Journals, MergedStep, all_lines, book_line, node_line}
 use Rattle.craq_seat.specs.Numbered.{named, numbered_from}
 use Rattle.craq_merge.proofs.Journals.{book_in, node_in, of_flat}
-use Rattle.craq_merge.proofs.Orders.{IsIn, from_contains, in_either, of_map, to_contains}
+use Rattle.craq_causality.proofs.Orders.{IsIn, from_contains, in_either, of_map, to_contains}
 use Rattle.craq_audit.specs.Journals.{journals_of, kept_of, records_in}
 use Rattle.craq_audit.specs.Lookups.{Found, HasCall, HasSent, HasStop, HaveSent, HaveStop, IsNamed, IsSend, cell_lines, cells_of}
 

@@ -4,7 +4,7 @@ use Rattle.std.specs.Prelude.{Contains}
 use Rattle.std.specs.List.Sorted.{IsNonDecreasingBy, IsPartitionPoint}
 use Rattle.std.proofs.lemmas.List.{get_or_default}
 use Rattle.std.proofs.lemmas.Bool.{ltb-false, ltb-true}
-use Rattle.craq_merge.proofs.Nodes.{same_or_not}
+use Rattle.craq_causality.proofs.Nodes.{same_or_not}
 use Rattle.craq_seat.specs.declared.journal.Record.{Record}
 use Rattle.craq_seat.specs.Journal.{IsStamped, RisesTo}
 use Rattle.craq_seat.proofs.Taking.{stamps_rise}

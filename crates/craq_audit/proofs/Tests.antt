@@ -4,7 +4,7 @@ use Rattle.std.specs.Prelude.{IsTrue, is_some, Contains}
 use Rattle.std.specs.Ordering.{is_ge, nat_cmp}
 use Rattle.craq_model.specs.declared.step.Out.{Out}
 use Rattle.craq_model.specs.Members.{is_member}
-use Rattle.craq_merge.proofs.Orders.{IsIn, from_contains, to_contains}
+use Rattle.craq_causality.proofs.Orders.{IsIn, from_contains, to_contains}
 use Rattle.craq_merge.proofs.Seated.{member_in}
 use Rattle.craq_audit.specs.Lookups.{Found, IsOut}
 

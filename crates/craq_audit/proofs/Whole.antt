@@ -21,13 +21,13 @@ use Rattle.craq_seat.specs.Calls.{Called}
 use Rattle.craq_seat.specs.Cells.{Celled}
 use Rattle.craq_seat.specs.Merge.{AreInOrder, IsMerge, Journals, MergedStep, all_lines, run_of}
 use Rattle.craq_seat.specs.Numbered.{numbered_from}
+use Rattle.craq_causality.specs.Causal.{MayFollow, WasSent}
+use Rattle.craq_causality.proofs.Growing.{all_follow}
+use Rattle.craq_causality.proofs.Orders.{all_by}
 use Rattle.craq_merge.specs.Merged.{AreSeated, CanBeNumbered}
 use Rattle.craq_merge.specs.Sorted.{AreSorted}
 use Rattle.craq_merge.proofs.Audited.{audited}
-use Rattle.craq_merge.proofs.Good.{arrival}
-use Rattle.craq_merge.proofs.Orders.{all_by, to_contains}
-use Rattle.craq_merge.proofs.Reached.{Sending}
-use Rattle.craq_merge.proofs.Seated.{good}
+use Rattle.craq_merge.proofs.Seated.{seated_causal}
 use Rattle.craq_merge.proofs.Sorted.{sorted_merge}
 use Rattle.craq_audit.specs.declared.finding.Audit.{Audit}
 use Rattle.craq_audit.specs.Audited.{Audits, CanBeAudited, IsAudited, IsRefused}
@@ -42,13 +42,13 @@ index_within base receipt [] i m h = cc
 index_within base receipt (x ∷ ms) zero m h = omega arith
 index_within base receipt (x ∷ ms) (suc i) m h = let t = index_within (base + 1) receipt ms i m h in omega (arith, t)
 
-sent_in_lines : (lines : List MergedStep) (stamp : ℕ) (m : LinkMessage) → Sending lines stamp m → IsSentIn lines m
-sent_in_lines lines stamp m s =
+sent_in_lines : (lines : List MergedStep) (m : LinkMessage) → WasSent lines m → IsSentIn lines m
+sent_in_lines lines m s =
     record {
       line = s.line;
-      there = to_contains lines s.line s.there;
+      there = s.there;
       node = s.node;
-      stamp = s.at;
+      stamp = s.stamp;
       index = index_within 0 (record { node = s.line.node; stamp = s.line.stamp }) (sent_in s.line.step.outs) m.index m s.message;
     }
 
@@ -64,7 +64,9 @@ module _ {C : Type 0} (R : C → Plain → Type 0) (book : Celled Mastered BookE
 
   pub arrivals : AllByRecursion (IsArrivalIn lines) lines
   arrivals =
-      all_by (IsArrivalIn lines) lines (λ l i m e. sent_in_lines lines l.stamp m (arrival (journals_of book (cells_of cs)) lines book.opening.name.chain (good R book (cells_of cs) (journals_of book (cells_of cs)) seated) is_merge l m i e))
+      let j : Journals = journals_of book (cells_of cs) in
+      let causal = seated_causal R book (cells_of cs) j lines seated is_merge in
+      all_by (IsArrivalIn lines) lines (λ l i m e. sent_in_lines lines m (subst (MayFollow j.members lines l.node) e (all_follow j.members [] lines l causal.order i)).1)
 
   pub is_audited : (run : Run) (receipts : List Called) → run ≡ run_of (journals_of book (cells_of cs)).members lines → CanBeNumbered lines → AreOfType run.moves → AllByRecursion (IsHeld (journals_of book (cells_of cs))) receipts → IsAudited book.opening.name.chain (journals_of book (cells_of cs)) receipts run
   is_audited run receipts is fit typed held =

@@ -1,4 +1,4 @@
--- A message that is named stands for the one in its sender's step.
+-- A numbered message stands for the one in its sender's step.
 use Rattle.std.proofs.Common.{◌≡◌, ℕ, zero, suc, ◌+◌, List, [], ◌∷◌, Some, refl, sym, ap, arith, ◌∙◌}
 use Rattle.std.specs.Prelude.{slice_get}
 use Rattle.craq_model.specs.declared.ask.Event.TheVariants as events
@@ -30,7 +30,7 @@ named_from i receipt ms m h =
     let e : 0 + i ≡ i = omega arith in
     (t.0, t.1, ap (λ j. named receipt j t.0) (sym e) ∙ t.2)
 
--- a node heeds neither the stamp nor the index of a message
+-- a node ignores the stamp and the index of a message
 abbrev stamped : LinkMessage → ℕ → ℕ → LinkMessage
 stamped m stamp index = record m { stamp = stamp; index = index }
 
@@ -50,7 +50,7 @@ unstamped : (p : Plain) (m : LinkMessage) (stamp index : ℕ) → node_step p (e
 unfolding node_step
 unstamped p m stamp index = rw (same_body p m stamp index m.body) refl
 
--- so a message of the sender does the same with and without its name
+-- so a message of the sender has the same effect with and without its number
 pub unnamed : (p : Plain) (receipt : Receipt) (index : ℕ) (n : LinkMessage) → n.sender ≡ receipt.node → node_step p (events.Deliver (named receipt index n)) ≡ node_step p (events.Deliver n)
 unnamed p receipt index n e =
     ap (λ s. node_step p (events.Deliver (record n { sender = s; stamp = receipt.stamp; index = index }))) (sym e) ∙ unstamped p n receipt.stamp index

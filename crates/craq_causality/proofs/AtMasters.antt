@@ -27,7 +27,7 @@ use Rattle.craq_seat.specs.Numbered.{AreFrom}
 not_stop : (r : Record BookEvent) → (book_line r).event ≡ AtNode events.Stop → ⊥
 not_stop r h = cc
 
--- where the nodes stay
+-- if the nodes stay
 same_nodes : (chain : ℕ) (members : List ℕ) (done rest : List MergedStep) (c x : Chain) (r : Record BookEvent) (n last : Mastered) (rs : List (Record BookEvent)) → IsReached chain members done (book_line r ∷ rest) c → x.chain ≡ c.chain → x.nodes ≡ c.nodes → n ≡ master_of x → ((id : ℕ) → IsJoinOf id (book_line r) → ⊥) → AreFrom 0 r.step.outs → lines_of 0 rest ≡ map book_line rs → Replays book_step n rs last → IsChanged chain (book_line r) rest c x
 same_nodes chain members done rest c x r n last rs old chained nodes is never from ls replay =
     record {

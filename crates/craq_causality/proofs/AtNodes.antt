@@ -30,16 +30,16 @@ use Rattle.craq_causality.proofs.Senders.{message_from}
 
 -- ---- the move
 
--- to whom messages go
+-- the receivers of messages
 abbrev pub receivers_of : List LinkMessage → List ℕ
 receivers_of ms = map (λ (m : LinkMessage). m.receiver) ms
 
--- a message of those that were sent does what the delivered one does
-abbrev pub StandsFor : Chain → List MergedStep → Plain → LinkMessage → Type 0
-StandsFor c lines p m =
+-- a message that was sent has the effect of the delivered one
+abbrev pub StandsAt : Chain → List MergedStep → Plain → LinkMessage → Type 0
+StandsAt c lines p m =
     (n : LinkMessage) × (message_at c.messages (number_among lines m) ≡ Some n) × (node_step p (events.Deliver n) ≡ node_step p (events.Deliver m))
 
-moves : (lines : List MergedStep) (c : Chain) (id : ℕ) (p q : Plain) (e : Event) (step : Step) → id ≢ 0 → node_at c.nodes id ≡ Some p → node_step p e ≡ Ok (q, step) → ((m : LinkMessage) → e ≡ events.Deliver m → StandsFor c lines p m) → move_progress c (move_among lines id (AtNode e)) ≡ Ok (record c { nodes = set_node c.nodes q }, step)
+moves : (lines : List MergedStep) (c : Chain) (id : ℕ) (p q : Plain) (e : Event) (step : Step) → id ≢ 0 → node_at c.nodes id ≡ Some p → node_step p e ≡ Ok (q, step) → ((m : LinkMessage) → e ≡ events.Deliver m → StandsAt c lines p m) → move_progress c (move_among lines id (AtNode e)) ≡ Ok (record c { nodes = set_node c.nodes q }, step)
 moves lines c id p q (events.Ask ask) step z at h f = rw (at, h) refl
 moves lines c id p q (events.Deliver m) step z at h f =
     let s = f m refl in
@@ -63,7 +63,7 @@ receiver_at ms zero n h = cc
 receiver_at ms (suc i) n h = index_of (λ (m : LinkMessage). m.receiver) ms i n h
 
 -- the move happens at the node
-places : (lines : List MergedStep) (c : Chain) (id : ℕ) (p q : Plain) (e : Event) (step : Step) → node_at c.nodes id ≡ Some p → node_step p e ≡ Ok (q, step) → ((m : LinkMessage) → e ≡ events.Deliver m → StandsFor c lines p m) → node_of (receivers_of c.messages) (move_among lines id (AtNode e)) ≡ id
+places : (lines : List MergedStep) (c : Chain) (id : ℕ) (p q : Plain) (e : Event) (step : Step) → node_at c.nodes id ≡ Some p → node_step p e ≡ Ok (q, step) → ((m : LinkMessage) → e ≡ events.Deliver m → StandsAt c lines p m) → node_of (receivers_of c.messages) (move_among lines id (AtNode e)) ≡ id
 places lines c id p q (events.Ask ask) step at h f = refl
 places lines c id p q (events.Deliver m) step at h f =
     let s = f m refl in
@@ -71,8 +71,8 @@ places lines c id p q (events.Deliver m) step at h f =
 places lines c id p q events.Tick step at h f = refl
 places lines c id p q events.Stop step at h f = refl
 
--- what was delivered was sent
-sent_before : (chain : ℕ) (members : List ℕ) (lines done rest : List MergedStep) (l : MergedStep) (c : Chain) (p : Plain) (m : LinkMessage) → lines ≡ done ++ l ∷ rest → AreApart lines → IsReached chain members done (l ∷ rest) c → WasSent done m → StandsFor c lines p m
+-- a delivered message was sent
+sent_before : (chain : ℕ) (members : List ℕ) (lines done rest : List MergedStep) (l : MergedStep) (c : Chain) (p : Plain) (m : LinkMessage) → lines ≡ done ++ l ∷ rest → AreApart lines → IsReached chain members done (l ∷ rest) c → WasSent done m → StandsAt c lines p m
 sent_before chain members lines done rest l c p m e apart r s =
     let there : IsIn done s.line = from_contains done s.line s.there in
     let receipt : Receipt = record { node = s.line.node; stamp = s.line.stamp } in
@@ -82,12 +82,12 @@ sent_before chain members lines done rest l c p m e apart r s =
     let at : message_at (all_sent done) (number_among (done ++ l ∷ rest) m) ≡ Some n = number_names done (l ∷ rest) s.line m n (subst AreApart e apart) there s.node s.stamp t.1 in
     (n, rw (r.sent, e) at, sym (unnamed p receipt m.index n from) ∙ ap (λ x. node_step p (events.Deliver x)) t.2)
 
-stands_for : (chain : ℕ) (members : List ℕ) (lines done rest : List MergedStep) (l : MergedStep) (c : Chain) (p : Plain) (m : LinkMessage) → lines ≡ done ++ l ∷ rest → AreSound members lines → IsReached chain members done (l ∷ rest) c → l.event ≡ AtNode (events.Deliver m) → StandsFor c lines p m
+stands_for : (chain : ℕ) (members : List ℕ) (lines done rest : List MergedStep) (l : MergedStep) (c : Chain) (p : Plain) (m : LinkMessage) → lines ≡ done ++ l ∷ rest → AreSound members lines → IsReached chain members done (l ∷ rest) c → l.event ≡ AtNode (events.Deliver m) → StandsAt c lines p m
 stands_for chain members lines done rest l c p m e sound r is =
     sent_before chain members lines done rest l c p m e sound.apart r
     (subst (MayFollow members done l.node) is (follows members lines done rest l e sound)).1
 
--- ---- what it changes
+-- ---- the changes of the move
 
 same_node : (o : Option Plain) (p q : Plain) → o ≡ Some p → o ≡ Some q → p ≡ q
 same_node o p q h k = cc
@@ -130,7 +130,7 @@ changes chain members done rest c id r p q last rs old z at h ls replay =
 
 -- ---- the whole
 
--- the line is a move that is taken, and leads to a chain like this
+-- the line is a move that is taken, and leads to a chain for which the same holds
 pub record IsNext (chain : ℕ) (members : List ℕ) (lines done : List MergedStep) (l : MergedStep) (rest : List MergedStep) (c : Chain) : Type 0 where
   pub next : Chain
   pub step : chain_step c (move_among lines l.node l.event) ≡ Ok (next, l.step)
@@ -148,7 +148,7 @@ taken chain members lines done rest l c x e sound r m at d =
       place = at;
     }
 
--- the node of a line is there
+-- the node of a line exists
 is_known : (chain : ℕ) (members : List ℕ) (lines done rest : List MergedStep) (l : MergedStep) (c : Chain) (event : Event) → lines ≡ done ++ l ∷ rest → AreSound members lines → IsReached chain members done (l ∷ rest) c → l.event ≡ AtNode event → IsThere c.nodes l.node
 is_known chain members lines done rest l c event e sound r is =
     let joined : HasJoined members done l.node = (subst (MayFollow members done l.node) is (follows members lines done rest l e sound)).0 in

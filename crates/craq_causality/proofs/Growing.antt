@@ -1,4 +1,4 @@
--- One line more in causal order.
+-- One more line in causal order.
 use Rattle.std.proofs.Common.{◌≡◌, ◌≢◌, ◌<◌, ℕ, ◌==◌, List, [], ◌∷◌, ◌++◌, Ok, refl, sym, ap, subst, ◌∙◌, inl, inr, append_assoc, append-nil, eq-eqb, ne_eqb}
 use Rattle.std.specs.List.{AllByRecursion}
 use Rattle.std.specs.Prelude.{Contains}
@@ -20,9 +20,9 @@ use Rattle.craq_seat.specs.Journal.{RisesTo}
 use Rattle.craq_seat.specs.Merge.{AtNode, AtMaster, Happening, MergedStep, book_line, node_line}
 use Rattle.craq_seat.proofs.Taking.{replays_more}
 use Rattle.craq_causality.specs.Authors.{IsMasterAfter, IsNodeAfter, first_of, lines_of}
-use Rattle.craq_causality.specs.Causal.{AreCausal, AreOrdered, HasJoined, IsOfSent, IsOfStopped, IsOfType, MayFollow}
+use Rattle.craq_causality.specs.Causal.{AreCausal, AreOrdered, AreTyped, HasJoined, IsOfSent, IsOfStopped, IsOfType, MayFollow}
 use Rattle.craq_causality.proofs.Nodes.{same_or_not}
-use Rattle.craq_causality.proofs.Orders.{from_contains, in_left, to_contains}
+use Rattle.craq_causality.proofs.Orders.{IsIn, from_contains, in_left, to_contains}
 
 -- ---- the lines of one author
 
@@ -74,6 +74,9 @@ all_more : {X : Type 0} (P : X → Type 0) (xs : List X) (x : X) → AllByRecurs
 all_more P [] x a p = (p, tt)
 all_more P (y ∷ xs) x a p = (a.0, all_more P xs x a.1 p)
 
+pub typed_more : (lines : List MergedStep) (l : MergedStep) → AreTyped lines → IsOfType l.event → AreTyped (lines ++ l ∷ [])
+typed_more = all_more (λ (x : MergedStep). IsOfType x.event)
+
 -- no lines are in causal order
 pub no_lines : (chain : ℕ) (members : List ℕ) → IsMembership members → AreCausal chain members []
 no_lines chain members m =
@@ -82,12 +85,11 @@ no_lines chain members m =
       master = (masters.opened_master chain members, 0, record { records = []; are = refl; replay = refl; stamps = refl });
       nodes = λ id z. (first_of chain members id, 0, record { records = []; are = refl; replay = refl; low = 0; stamps = refl });
       order = tt;
-      typed = tt;
     }
 
 -- a step of a node follows
-pub node_follows : (chain : ℕ) (members : List ℕ) (lines : List MergedStep) (id : ℕ) (p q : Plain) (stamp : ℕ) (r : Record Event) → AreCausal chain members lines → id ≢ 0 → IsNodeAfter chain members id lines p stamp → node_step p r.event ≡ Ok (q, r.step) → stamp < r.stamp → MayFollow members lines id (AtNode r.event) → IsOfType (AtNode r.event) → AreCausal chain members (lines ++ node_line id r ∷ [])
-node_follows chain members lines id p q stamp r a z n step less may typed =
+pub node_follows : (chain : ℕ) (members : List ℕ) (lines : List MergedStep) (id : ℕ) (p q : Plain) (stamp : ℕ) (r : Record Event) → AreCausal chain members lines → id ≢ 0 → IsNodeAfter chain members id lines p stamp → node_step p r.event ≡ Ok (q, r.step) → stamp < r.stamp → MayFollow members lines id (AtNode r.event) → AreCausal chain members (lines ++ node_line id r ∷ [])
+node_follows chain members lines id p q stamp r a z n step less may =
     let l : MergedStep = node_line id r in
     record {
       membership = a.membership;
@@ -97,7 +99,6 @@ node_follows chain members lines id p q stamp r a z n step less may typed =
         | inr d ↦ (let t = a.nodes k w in (t.0, t.1, node_other chain members k lines l t.0 t.1 d t.2))
       ];
       order = ordered_more members [] lines l a.order may;
-      typed = all_more (λ (x : MergedStep). IsOfType x.event) lines l a.typed typed;
     }
 
 -- a step of the master follows
@@ -109,10 +110,9 @@ master_follows chain members lines m n stamp r a b step less may =
       master = (n, r.stamp, master_more chain members lines m n stamp r b step less);
       nodes = λ k w. let t = a.nodes k w in (t.0, t.1, node_other chain members k lines l t.0 t.1 (λ e. w (sym e)) t.2);
       order = ordered_more members [] lines l a.order may;
-      typed = all_more (λ (x : MergedStep). IsOfType x.event) lines l a.typed tt;
     }
 
--- ---- what may follow lines may follow more of them
+-- ---- an event that may follow lines may follow more of them
 
 contains_more : {X : Type 0} (xs ys : List X) (x : X) → IsPrefix xs ys → Contains xs x → Contains ys x
 contains_more xs ys x p c = subst (λ zs. Contains zs x) p.1 (to_contains (xs ++ p.0) x (in_left xs p.0 x (from_contains xs x c)))
@@ -135,3 +135,11 @@ stopped_later xs ys books.Tick p s = tt
 pub follows_later : (members : List ℕ) (xs ys : List MergedStep) (id : ℕ) (h : Happening) → IsPrefix xs ys → MayFollow members xs id h → MayFollow members ys id h
 follows_later members xs ys id (AtNode e) p may = (joined_later members xs ys id p may.0, sent_later xs ys e p may.1)
 follows_later members xs ys id (AtMaster e) p may = stopped_later xs ys e p may
+
+-- the causes of each line are among the lines
+pub all_follow : (members : List ℕ) (before rest : List MergedStep) (l : MergedStep) → AreOrdered members before rest → IsIn rest l → MayFollow members (before ++ rest) l.node l.event
+all_follow members before [] l o i = absurd i
+all_follow members before (x ∷ rest) l o (inl e) =
+    subst (λ (y : MergedStep). MayFollow members (before ++ x ∷ rest) y.node y.event) e (follows_later members before (before ++ x ∷ rest) x.node x.event (x ∷ rest, refl) o.0)
+all_follow members before (x ∷ rest) l o (inr i) =
+    subst (λ ls. MayFollow members ls l.node l.event) (append_assoc before (x ∷ []) rest) (all_follow members (before ++ x ∷ []) rest l o.1 i)

@@ -19,7 +19,7 @@ use Rattle.craq_seat.specs.Numbered.{AreFrom}
 reported_same : (x y : Mastered × Step) (r : Result (Mastered × Step) Refusal) → r ≡ Ok x → r ≡ Ok y → x ≡ y
 reported_same x y r h k = cc
 
--- what is told is of the master after the step
+-- the membership that is announced is that of the master after the step
 pub is_reported : (r : Result Mastered Refusal) (n : Mastered) (step : Step) → tells r ≡ Ok (n, step) → (r ≡ Ok n) × (step ≡ membership_step n.chain n.epoch n.members)
 is_reported (Err e) n step h = cc
 is_reported (Ok m) n step h =

@@ -31,7 +31,7 @@ pushed_other (r ∷ ps) q id n = grind (arith, n, pushed_other ps q id n)
 
 -- ---- steps that are taken
 
--- only a running node takes one
+-- only a running node takes a step
 pub runs : (p q : Plain) (e : Event) (s : Step) → node_step p e ≡ Ok (q, s) → p.running ≡ true
 unfolding node_step
 runs p q e s h = grind (arith, h)
@@ -41,7 +41,7 @@ pub is_receiver : (p q : Plain) (m : LinkMessage) (s : Step) → node_step p (ev
 unfolding node_step
 is_receiver p q m s h = grind (arith, h, eqb-true m.receiver (id_of p))
 
--- the node of a stop runs no more
+-- a node that stopped does not run
 abbrev IsHalted : Result Transition Refusal → Type 0
 IsHalted (Ok t) = t.0.running ≡ false
 IsHalted (Err e) = ⊤
@@ -53,7 +53,7 @@ stop_halts p = grind arith
 pub halts : (p q : Plain) (s : Step) → node_step p events.Stop ≡ Ok (q, s) → q.running ≡ false
 halts p q s h = subst IsHalted h (stop_halts p)
 
--- the chain after a move that led to this one, with the move and its messages counted
+-- the chain of a move, with the move and its messages counted
 abbrev pub counted : Chain → Chain → Step → Chain
 counted c x step = record x { messages = c.messages ++ sent_in step.outs; moves = c.moves + 1 }
 

@@ -16,7 +16,7 @@ pub get_past : {X : Type 0} (xs ys : List X) (k : ℕ) → slice_get (xs ++ ys) 
 get_past [] ys k = let e : 0 + k ≡ k = omega arith in rw e refl
 get_past (x ∷ xs) ys k = let e : suc (length xs) + k ≡ suc (length xs + k) = omega arith in rw e (get_past xs ys k)
 
--- within it
+-- within the first list
 pub get_within : {X : Type 0} (xs ys : List X) (k : ℕ) (x : X) → slice_get xs k ≡ Some x → slice_get (xs ++ ys) k ≡ Some x
 get_within [] ys k x h = cc
 get_within (y ∷ xs) ys zero x h = h

@@ -1,4 +1,4 @@
--- Lists of lines: what is in them, whose they are, and that author and stamp tell them apart.
+-- Lists of lines: their elements, their authors, and no two with one author and stamp.
 use Rattle.std.proofs.Common.{◌≡◌, ◌≢◌, ◌<◌, ◌⊎◌, ℕ, zero, suc, ◌==◌, List, [], ◌∷◌, ◌++◌, map, length, refl, sym, ap, subst, arith, ◌∙◌, inl, inr}
 use Rattle.std.specs.Prelude.{⊤, Contains, slice_get, Some}
 use Rattle.std.specs.List.{AllByRecursion}
@@ -8,7 +8,7 @@ use Rattle.craq_seat.specs.Journal.{RisesTo}
 use Rattle.craq_seat.specs.Merge.{MergedStep}
 use Rattle.craq_causality.specs.Authors.{lines_of}
 
--- ---- what is in a list
+-- ---- the elements of a list
 
 abbrev pub IsIn : {X : Type 0} → List X → X → Type 0
 IsIn {X} [] x = ⊥
@@ -69,7 +69,7 @@ abbrev pub AreRising : List MergedStep → Type 0
 AreRising [] = ⊤
 AreRising (a ∷ ls) = AllByRecursion (λ (b : MergedStep). a.stamp < b.stamp) ls × AreRising ls
 
-above_first : {E : Type 0} (first last : ℕ) (rs : List (Record E)) (r : Record E) → RisesTo first rs last → IsIn rs r → first < r.stamp
+pub above_first : {E : Type 0} (first last : ℕ) (rs : List (Record E)) (r : Record E) → RisesTo first rs last → IsIn rs r → first < r.stamp
 above_first first last [] r h i = absurd i
 above_first first last (x ∷ rs) r h (inl e) = let a = h.0 in let s : x.stamp ≡ r.stamp = ap (λ y. y.stamp) e in omega (arith, a, s)
 above_first first last (x ∷ rs) r h (inr i) = let a = h.0 in let b = above_first x.stamp last rs r h.1 i in omega (arith, a, b)
@@ -113,7 +113,7 @@ from_at id (l ∷ ls) z i =
     (λ b k. let r = from_at id ls z k in (inr r.0, r.1))
     i
 
--- ---- lines that are told apart by author and stamp
+-- ---- lines of one author have different stamps
 
 abbrev pub IsApart : MergedStep → MergedStep → Type 0
 IsApart a b = a.node ≡ b.node → a.stamp < b.stamp

@@ -1,4 +1,4 @@
--- What holds of a chain after some of the lines, and that the next line keeps it.
+-- The invariant of a chain after some of the lines; the next line preserves it.
 use Rattle.std.proofs.Common.{◌≡◌, ◌≢◌, ◌<◌, ◌≤◌, ◌⊎◌, ℕ, suc, ◌+◌, true, false, List, [], ◌∷◌, ◌++◌, map, length, Option, Some, None, refl, sym, ap, subst, arith, ◌∙◌, inl, inr, length-append, append-nil, append_assoc}
 use Rattle.craq_names.specs.Limits.{greatest}
 use Rattle.craq_model.specs.declared.ask.Event.{Event}
@@ -22,12 +22,12 @@ use Rattle.craq_causality.proofs.Numbers.{all_sent, all_sent-append}
 use Rattle.craq_causality.proofs.Nodes.{counted}
 use Rattle.craq_seat.specs.Numbered.{AreFrom}
 
--- ---- what is known of the lines
+-- ---- the conditions of the lines
 
 abbrev pub IsJoinOf : ℕ → MergedStep → Type 0
 IsJoinOf id l = l.event ≡ AtMaster (books.Join id)
 
--- author and stamp tell the lines apart, each may follow those before it, and there are numbers for all
+-- author and stamp identify a line, each may follow those before it, and there are numbers for all
 pub record AreSound (members : List ℕ) (lines : List MergedStep) : Type 0 where
   pub apart : AreApart lines
   pub order : AreOrdered members [] lines
@@ -42,7 +42,7 @@ ordered_at members before (d ∷ done) rest l o =
 pub follows : (members : List ℕ) (lines done rest : List MergedStep) (l : MergedStep) → lines ≡ done ++ l ∷ rest → AreSound members lines → MayFollow members done l.node l.event
 follows members lines done rest l e s = ordered_at members [] done rest l (subst (AreOrdered members []) e s.order)
 
--- ---- what holds of the chain
+-- ---- the invariant of the chain
 
 abbrev pub IsThere : List Plain → ℕ → Type 0
 IsThere ps id = (p : Plain) × (node_at ps id ≡ Some p)
@@ -57,7 +57,7 @@ pub record MasterGoes (m : Mastered) (ls : List MergedStep) : Type 0 where
   pub lines : ls ≡ map book_line records
   pub replay : Replays book_step m records last
 
--- the node that is there, or will join
+-- the node that exists, or will join
 abbrev pub IsNow : ℕ → ℕ → Option Plain → Plain → Type 0
 IsNow chain id o p = (o ≡ Some p) ⊎ ((o ≡ None) × (p ≡ opening_joined (record { chain = chain; node = id })))
 
@@ -82,7 +82,7 @@ pub record IsReached (chain : ℕ) (members : List ℕ) (done rest : List Merged
   pub stops : (l : MergedStep) → IsIn done l → l.event ≡ AtNode events.Stop → IsStopped c.nodes l.node
   pub from : (l : MergedStep) → IsIn done l → AreFrom l.node l.step.outs
 
--- what a line changes
+-- the changes that a line makes
 pub record IsChanged (chain : ℕ) (l : MergedStep) (rest : List MergedStep) (c x : Chain) : Type 0 where
   pub chained : x.chain ≡ c.chain
   pub master : MasterGoes (master_of x) (lines_of 0 rest)
@@ -100,7 +100,7 @@ last_in P done l f here s i =
       | inr k ↦ elim k [ inl e ↦ subst P e here | inr n ↦ absurd n ]
     ]
 
--- one line more
+-- one more line
 pub reached_more : (chain : ℕ) (members : List ℕ) (done rest : List MergedStep) (l : MergedStep) (c x : Chain) → IsReached chain members done (l ∷ rest) c → IsChanged chain l rest c x → IsReached chain members (done ++ l ∷ []) rest (counted c x l.step)
 reached_more chain members done rest l c x r d =
     record {

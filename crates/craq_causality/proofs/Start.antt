@@ -1,15 +1,16 @@
--- The opening chain, before the lines; and that the lines are a run.
+-- The opening chain, before the lines; and the lines are a run.
 use Rattle.std.proofs.Common.{◌≡◌, ℕ, Bool, true, false, if◌then◌else◌, List, [], ◌∷◌, map, Option, Some, None, refl, sym, ap, subst, arith, inl, inr}
 use Rattle.craq_model.specs.Members.{is_member}
 use Rattle.craq_model.specs.Plain.{Plain, id_of, opening_joined, opening_member}
 use Rattle.craq_runs.specs.Chain.{node_at, opening_chain}
+use Rattle.craq_runs.specs.Runs.{IsRunOf}
 use Rattle.craq_runs.specs.Typed.{IsTypedRunOf}
 use Rattle.craq_seat.specs.Merge.{MergedStep, book_line, node_line, run_of}
 use Rattle.craq_causality.specs.Authors.{first_of, lines_of}
-use Rattle.craq_causality.specs.Causal.{AreCausal, AreFew}
+use Rattle.craq_causality.specs.Causal.{AreCausal, AreFew, AreTyped}
 use Rattle.craq_causality.proofs.Nodes.{same_or_not}
 use Rattle.craq_causality.proofs.Orders.{AreRising, apart, journal_rises}
-use Rattle.craq_causality.proofs.Reached.{IsNow, IsReached}
+use Rattle.craq_causality.proofs.Reached.{AreSound, IsNow, IsReached}
 use Rattle.craq_causality.proofs.Typed.{all_typed}
 use Rattle.craq_causality.proofs.Walk.{walk}
 
@@ -32,7 +33,7 @@ unfolding is_member node_at
 opening_none chain all [] id h = refl
 opening_none chain all (m ∷ members) id h = grind (arith, h, opening_none chain all members id)
 
--- a first member is there, and another node will join as it is opened
+-- a first member exists, and any other node will join as it is opened
 by_member : (b : Bool) (o : Option Plain) (chain id : ℕ) (first : Plain) → (b ≡ true → o ≡ Some first) → (b ≡ false → o ≡ None) → IsNow chain id o (if b then first else opening_joined (record { chain = chain; node = id }))
 by_member true o chain id first f g = inl (f refl)
 by_member false o chain id first f g = inr (g refl, refl)
@@ -42,7 +43,7 @@ is_now chain members id =
     by_member (is_member members id) (node_at (opening_nodes chain members members) id) chain id (opening_member (record { chain = chain; node = id }) members)
     (opening_there chain members members id) (opening_none chain members members id)
 
-start : (chain : ℕ) (members : List ℕ) (lines : List MergedStep) → AreCausal chain members lines → IsReached chain members [] lines (opening_chain chain members)
+pub start : (chain : ℕ) (members : List ℕ) (lines : List MergedStep) → AreCausal chain members lines → IsReached chain members [] lines (opening_chain chain members)
 start chain members lines a =
     let m = a.master.2 in
     record {
@@ -73,14 +74,15 @@ author_rises chain members lines a id =
       | inr z ↦ (let n = (a.nodes id z).2 in rw n.are (journal_rises (node_line id) (λ r. refl) n.low (a.nodes id z).1 n.records n.stamps))
     ]
 
-pub is_run : (chain : ℕ) (members : List ℕ) (lines : List MergedStep) → AreCausal chain members lines → AreFew lines → IsTypedRunOf chain (run_of members lines)
+pub sound : (chain : ℕ) (members : List ℕ) (lines : List MergedStep) → AreCausal chain members lines → AreFew lines → AreSound members lines
+sound chain members lines a few = record { apart = apart lines (author_rises chain members lines a); order = a.order; few = few }
+
+pub is_run : (chain : ℕ) (members : List ℕ) (lines : List MergedStep) → AreCausal chain members lines → AreFew lines → IsRunOf chain (run_of members lines)
 is_run chain members lines a few =
     record {
-      run_of = record {
-        members = a.membership;
-        moves = walk chain members lines [] lines (opening_chain chain members) refl
-            (record { apart = apart lines (author_rises chain members lines a); order = a.order; few = few })
-            (start chain members lines a);
-      };
-      typed = all_typed lines lines a.typed;
+      members = a.membership;
+      moves = walk chain members lines [] lines (opening_chain chain members) refl (sound chain members lines a few) (start chain members lines a);
     }
+
+pub is_typed_run : (chain : ℕ) (members : List ℕ) (lines : List MergedStep) → AreCausal chain members lines → AreTyped lines → AreFew lines → IsTypedRunOf chain (run_of members lines)
+is_typed_run chain members lines a typed few = record { run_of = is_run chain members lines a few; typed = all_typed lines lines typed }

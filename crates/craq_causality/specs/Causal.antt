@@ -1,4 +1,4 @@
--- Lines in causal order: each author's lines are its journal, and what a line needs stands before it.
+-- Lines in causal order: each author's lines are its journal, and each line follows its causes.
 use Rattle.std.specs.Prelude.{◌≡◌, ◌≢◌, ◌≤◌, ◌⊎◌, ℕ, true, ⊤, List, [], ◌∷◌, ◌++◌, flat_map, length, Contains, Some, slice_get}
 use Rattle.std.specs.List.{AllByRecursion}
 use Rattle.craq_names.specs.Limits.{greatest}
@@ -47,7 +47,7 @@ IsOfStopped before (books.Join id) = ⊤
 IsOfStopped before (books.Remove stopped stop) = HasStopped before stopped stop
 IsOfStopped before books.Tick = ⊤
 
--- what may happen after these lines: at a node after its join, at the master as it may
+-- the event may follow these lines: at a node after its join, at the master as it may
 abbrev pub MayFollow : List ℕ → List MergedStep → ℕ → Happening → Type 0
 MayFollow members before id (AtNode event) = HasJoined members before id × IsOfSent before event
 MayFollow members before id (AtMaster event) = IsOfStopped before event
@@ -57,7 +57,7 @@ abbrev pub AreOrdered : List ℕ → List MergedStep → List MergedStep → Typ
 AreOrdered members before [] = ⊤
 AreOrdered members before (l ∷ ls) = MayFollow members before l.node l.event × AreOrdered members (before ++ l ∷ []) ls
 
--- a transaction that is asked is within the limits of its type
+-- a requested transaction is within the limits of its type
 abbrev pub IsOfType : Happening → Type 0
 IsOfType (AtNode (events.Ask ask)) = IsAskOfType ask
 IsOfType (AtNode (events.Deliver m)) = ⊤
@@ -65,13 +65,17 @@ IsOfType (AtNode events.Tick) = ⊤
 IsOfType (AtNode events.Stop) = ⊤
 IsOfType (AtMaster event) = ⊤
 
--- the lines of a chain that was opened with these members: each author's lines are its journal, and all are in causal order
+-- each requested transaction is within the limits of its type
+abbrev pub AreTyped : List MergedStep → Type 0
+AreTyped lines = AllByRecursion (λ (l : MergedStep). IsOfType l.event) lines
+
+-- the lines of a chain that was opened with these members: each author's lines are its journal, and
+-- all are in causal order
 pub record AreCausal (chain : ℕ) (members : List ℕ) (lines : List MergedStep) : Type 0 where
   pub membership : IsMembership members
   pub master : (m : Mastered) × (stamp : ℕ) × IsMasterAfter chain members lines m stamp
   pub nodes : (id : ℕ) → id ≢ 0 → (p : Plain) × (stamp : ℕ) × IsNodeAfter chain members id lines p stamp
   pub order : AreOrdered members [] lines
-  pub typed : AllByRecursion (λ (l : MergedStep). IsOfType l.event) lines
 
 -- there are at most 2 ^ 64 - 1 lines, and as many messages
 pub record AreFew (lines : List MergedStep) : Type 0 where

@@ -13,10 +13,10 @@ use Rattle.craq_seat.specs.Calls.{Called}
 use Rattle.craq_seat.specs.Cells.{Celled}
 use Rattle.craq_seat.specs.Kept.{IsKept}
 use Rattle.craq_seat.specs.Merge.{IsMerge, Journals, MergedStep, run_of}
+use Rattle.craq_causality.proofs.Orders.{all_by, all_in}
 use Rattle.craq_merge.specs.Merged.{AreSeated, CanBeNumbered}
 use Rattle.craq_merge.specs.Within.{IsWithin}
 use Rattle.craq_merge.proofs.Calls.{calls_within}
-use Rattle.craq_merge.proofs.Orders.{all_by, all_in}
 use Rattle.craq_merge.proofs.Seated.{seated_run}
 
 holds : {C : Type 0} (R : C → Plain → Type 0) (book : Celled Mastered BookEvent) (cells : List (Celled C Event)) (j : Journals) (receipts : List Called) (run : Run) (lines : List MergedStep) → AreSeated R book cells j → IsMerge j lines → CanBeNumbered lines → run ≡ run_of j.members lines → AllByRecursion (IsHeld j) receipts → IsRunOf book.opening.name.chain run × AllByRecursion (λ (c : Called). IsWithin lines run c) receipts

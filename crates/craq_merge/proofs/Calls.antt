@@ -19,17 +19,19 @@ use Rattle.craq_seat.specs.Calls.{Called}
 use Rattle.craq_seat.specs.Cells.{Celled}
 use Rattle.craq_seat.specs.Merge.{AtNode, IsBefore, IsMerge, Journals, MergedStep, node_line, run_of}
 use Rattle.craq_seat.specs.Stamps.{event_stamp}
+use Rattle.craq_causality.proofs.Orders.{IsIn, from_contains, to_contains}
+use Rattle.craq_causality.proofs.Reached.{AreSound}
+use Rattle.craq_causality.proofs.Start.{sound, start}
+use Rattle.craq_causality.proofs.Walk.{taken_among}
 use Rattle.craq_merge.specs.Merged.{AreSeated, CanBeNumbered}
 use Rattle.craq_merge.specs.Within.{run_answer_of_call, IsWithin, line_at}
-use Rattle.craq_merge.proofs.Good.{AreGood, records_above_pass, sound}
+use Rattle.craq_merge.proofs.Causal.{causal, node_journal}
+use Rattle.craq_merge.proofs.Good.{AreGood, records_above_pass}
 use Rattle.craq_merge.proofs.Journals.{Kept, is_line, node_in}
-use Rattle.craq_merge.proofs.Orders.{AreRising, IsIn, from_contains, rising, to_contains}
-use Rattle.craq_merge.proofs.Reached.{AreSound}
-use Rattle.craq_merge.proofs.Seated.{good}
+use Rattle.craq_merge.proofs.Orders.{AreRising, rising}
+use Rattle.craq_merge.proofs.Seated.{good, seated_causal}
 use Rattle.craq_merge.proofs.Seen.{answered_at, asked_at, before_by_stamp, later_line, place_of}
 use Rattle.craq_merge.proofs.Named.{ask_named}
-use Rattle.craq_merge.proofs.Start.{node_journal, start}
-use Rattle.craq_merge.proofs.Walk.{taken_among}
 
 -- ---- the lines of a call
 
@@ -69,7 +71,7 @@ same_answered a b m n ticket answer e f = rw (e, f) refl
 
 answer_seen : (chain : ℕ) (j : Journals) (lines : List MergedStep) (id : ℕ) (r : Record Event) (c : Called) (p : HasPlace lines id r) (g : AreGood chain j) → IsMerge j lines → AreSound j.members lines → id ≡ c.call.asked.node → IsIn r.step.outs (outs.Answer c.call.ticket c.answer) → Contains (seen (run_of j.members lines)).answers (run_answer_of_call c (suc p.place))
 answer_seen chain j lines id r c p g m s own i =
-    let a = answered_at chain j.members lines [] lines (opening_chain chain j.members) 1 p.place (node_line id r) c.call.ticket c.answer refl s (start chain j lines g m) p.at i in
+    let a = answered_at chain j.members lines [] lines (opening_chain chain j.members) 1 p.place (node_line id r) c.call.ticket c.answer refl s (start chain j.members lines (causal chain j lines g m)) p.at i in
     to_contains (answers_from 1 [] (map (taken_among lines) lines)) (run_answer_of_call c (suc p.place))
     (subst (IsIn (answers_from 1 [] (map (taken_among lines) lines))) (same_answered (1 + p.place) (suc p.place) id c.call.asked.node c.call.ticket c.answer (one_more p.place) own) a)
 
@@ -115,8 +117,8 @@ by_parts chain j lines g m s c (own, rs, among, asked, answered) = within chain 
 
 pub calls_within : {C : Type 0} (R : C → Plain → Type 0) (book : Celled Mastered BookEvent) (cells : List (Celled C Event)) (j : Journals) (lines : List MergedStep) (c : Called) → AreSeated R book cells j → IsMerge j lines → CanBeNumbered lines → IsHeld j c → IsWithin lines (run_of j.members lines) c
 calls_within R book cells j lines c seated m fit held =
-    let g = good R book cells j seated in
-    by_parts book.opening.name.chain j lines g m (sound j lines book.opening.name.chain g m fit.moves fit.messages) c held
+    by_parts book.opening.name.chain j lines (good R book cells j seated) m
+    (sound book.opening.name.chain j.members lines (seated_causal R book cells j lines seated m) fit) c held
 
 pub passes_order : (lines : List MergedStep) (run : Run) (earlier later : Called) (first : IsWithin lines run earlier) (second : IsWithin lines run later) → earlier.answered.stamp ≤ later.call.pass → first.answered < second.asked
 passes_order lines run earlier later first second le =

@@ -5,7 +5,7 @@ use Rattle.std.specs.List.{AllByRecursion, IsDistinct, sum_by}
 use Rattle.std.proofs.lemmas.List.Sorted.{sum_by-IsPermutation}
 use Rattle.std.proofs.lemmas.List.Sums.{sum_by-cons}
 use Rattle.craq_model.specs.Members.{is_member}
-use Rattle.craq_merge.proofs.Orders.{IsIn}
+use Rattle.craq_causality.proofs.Orders.{IsIn}
 
 abbrev pub once : ℕ → ℕ → ℕ
 once id x = if x == id then 1 else 0

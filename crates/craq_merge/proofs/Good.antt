@@ -1,10 +1,8 @@
--- Journals whose merge is a run, and the conditions of their lines.
-use Rattle.std.proofs.Common.{◌≡◌, ◌≢◌, ◌<◌, ◌≤◌, ◌⊎◌, ℕ, true, List, [], ◌∷◌, length, Ok, sym, ap, subst, arith, ◌∙◌, inl, inr}
-use Rattle.craq_names.specs.Limits.{greatest}
-use Rattle.craq_names.specs.declared.name.NodeName.{NodeName}
+-- Journals whose merge is a run: each of its lines follows its causes.
+use Rattle.std.proofs.Common.{◌≡◌, ◌<◌, ◌⊎◌, ℕ, true, List, [], ◌∷◌, ◌++◌, Ok, refl, sym, ap, subst, arith, ◌∙◌, inl, inr, append_assoc}
+use Rattle.std.specs.Prelude.{Contains}
 use Rattle.craq_model.specs.declared.ask.Event.{Event}
 use Rattle.craq_model.specs.declared.ask.Event.TheVariants as events
-use Rattle.craq_model.specs.declared.message.LinkMessage.{LinkMessage}
 use Rattle.craq_model.specs.Members.{IsMembership, is_member}
 use Rattle.craq_model.specs.Node.{node_step}
 use Rattle.craq_model.specs.Plain.{Plain, opening_joined, opening_member}
@@ -12,19 +10,19 @@ use Rattle.craq_epochs.specs.Mastered.{Mastered}
 use Rattle.craq_epochs.specs.Mastered as masters
 use Rattle.craq_seat.specs.declared.journal.BookEvent.{BookEvent}
 use Rattle.craq_seat.specs.declared.journal.BookEvent.TheVariants as books
-use Rattle.craq_seat.specs.declared.journal.Receipt.{Receipt}
 use Rattle.craq_seat.specs.declared.journal.Record.{Record}
-use Rattle.craq_seat.specs.Audits.{HasSender, IsOfSent, NamesItsStop, WasSent}
+use Rattle.craq_seat.specs.Audits.{HasSender, NamesItsStop}
+use Rattle.craq_seat.specs.Audits as audits
 use Rattle.craq_seat.specs.Books.{book_step}
 use Rattle.craq_seat.specs.Journal.{AreStamped, Replays}
-use Rattle.craq_seat.specs.Merge.{AtNode, AtMaster, Happening, IsMerge, Journals, MergedStep, all_lines, book_line}
+use Rattle.craq_seat.specs.Merge.{AtNode, AtMaster, IsMerge, Journals, MergedStep, all_lines, book_line, node_line}
 use Rattle.craq_seat.specs.Stamps.{book_stamp, event_stamp, next_stamp}
 use Rattle.craq_seat.proofs.Taking.{stamps_rise}
+use Rattle.craq_causality.specs.Causal.{AreOrdered, HasJoined, IsOfSent, IsOfStopped, MayFollow}
+use Rattle.craq_causality.proofs.Orders.{IsIn, above_first, from_contains, in_right, to_contains}
 use Rattle.craq_merge.proofs.Counts.{count}
-use Rattle.craq_merge.proofs.Journals.{Kept, above_first, book_in, ids_of, is_line, line_of}
-use Rattle.craq_merge.proofs.Numbers.{all_sent}
-use Rattle.craq_merge.proofs.Orders.{IsIn, from_contains, rising}
-use Rattle.craq_merge.proofs.Reached.{AreSound, Earlier, IsJoinOf, IsStopOf, Sending}
+use Rattle.craq_merge.proofs.Journals.{Kept, book_in, ids_of, is_line, line_of}
+use Rattle.craq_merge.proofs.Orders.{is_done, rising}
 
 -- ---- the journals
 
@@ -80,88 +78,58 @@ records_above_pass bears first last [] r h i = absurd i
 records_above_pass bears first last (x ∷ rs) r h (inl e) = subst (λ y. y.pass < y.stamp) e (above_pass first x.pass (bears x.event) x.stamp h.0)
 records_above_pass bears first last (x ∷ rs) r h (inr i) = records_above_pass bears x.stamp last rs r h.1 i
 
--- ---- the conditions of each line
+-- ---- each line follows its causes
 
-other_kind : (x : Happening) (e : Event) (b : BookEvent) → AtNode e ≡ x → x ≡ AtMaster b → ⊥
-other_kind x e b h k = cc
+earlier : (j : Journals) (lines done rest : List MergedStep) (l s : MergedStep) → lines ≡ done ++ l ∷ rest → IsMerge j lines → Contains (all_lines j) s → s.stamp < l.stamp → Contains done s
+earlier j lines done rest l s e merge c less =
+    to_contains done s (is_done lines done rest l s e (rising lines merge.order) (is_line j lines s merge (from_contains (all_lines j) s c)) less)
 
-same_at_node : (x : Happening) (a b : Event) → AtNode a ≡ x → x ≡ AtNode b → a ≡ b
-same_at_node x a b h k = cc
+of_sent : (event : Event) (j : Journals) (lines done rest : List MergedStep) (l : MergedStep) → lines ≡ done ++ l ∷ rest → IsMerge j lines → audits.IsOfSent j l.stamp event → IsOfSent done event
+of_sent (events.Ask ask) j lines done rest l e merge w = tt
+of_sent (events.Deliver m) j lines done rest l e merge w =
+    let less : m.stamp < l.stamp = w.0 in
+    let same : w.1.stamp ≡ m.stamp = w.4 in
+    record { line = w.1; there = earlier j lines done rest l w.1 e merge w.2 (omega (arith, less, same)); node = w.3; stamp = w.4; message = w.5 }
+of_sent events.Tick j lines done rest l e merge w = tt
+of_sent events.Stop j lines done rest l e merge w = tt
 
-same_at_master : (x : Happening) (a b : BookEvent) → AtMaster a ≡ x → x ≡ AtMaster b → a ≡ b
-same_at_master x a b h k = cc
+of_stopped : (event : BookEvent) (j : Journals) (lines done rest : List MergedStep) (l : MergedStep) → lines ≡ done ++ l ∷ rest → IsMerge j lines → book_stamp event < l.stamp → NamesItsStop j event → IsOfStopped done event
+of_stopped (books.Join id) j lines done rest l e merge less w = tt
+of_stopped (books.Remove stopped stop) j lines done rest l e merge less w =
+    let low : stop.stamp < l.stamp = less in
+    let same : w.1.stamp ≡ stop.stamp = w.4 in
+    (w.1, earlier j lines done rest l w.1 e merge w.2 (omega (arith, low, same)), w.3 ∙ w.0, w.4, w.5)
+of_stopped books.Tick j lines done rest l e merge less w = tt
 
-pub arrival : (j : Journals) (lines : List MergedStep) (chain : ℕ) → AreGood chain j → IsMerge j lines → (l : MergedStep) (m : LinkMessage) → IsIn lines l → l.event ≡ AtNode (events.Deliver m) → Sending lines l.stamp m
-arrival j lines chain g merge l m i e =
-    elim (line_of j lines l merge i) [
-      | inl b ↦ absurd (other_kind l.event (events.Deliver m) b.entry.event (sym e) (ap (λ (x : MergedStep). x.event) (sym b.is)))
-      | inr n ↦ (
-          let event : n.entry.event ≡ events.Deliver m = same_at_node l.event n.entry.event (events.Deliver m) (ap (λ (x : MergedStep). x.event) n.is) e in
-          let w : WasSent j n.entry.stamp m = subst (IsOfSent j n.entry.stamp) event (g.sent n.kept n.entry n.among n.there) in
-          let at : n.entry.stamp ≡ l.stamp = ap (λ (x : MergedStep). x.stamp) n.is in
-          let less : m.stamp < n.entry.stamp = w.0 in
-          let same : w.1.stamp ≡ m.stamp = w.4 in
-          record {
-            line = w.1;
-            there = is_line j lines w.1 merge (from_contains (all_lines j) w.1 w.2);
-            node = w.3;
-            at = w.4;
-            earlier = omega (arith, at, less, same);
-            message = w.5;
-          }
+has_joined : (chain : ℕ) (j : Journals) (lines done rest : List MergedStep) (n : Kept) (r : Record Event) → AreGood chain j → IsMerge j lines → lines ≡ done ++ node_line n.0 r ∷ rest → IsIn j.nodes n → IsIn n.1 r → HasJoined j.members done n.0
+has_joined chain j lines done rest n r g merge e among there =
+    let s = g.nodes n among in
+    let less : s.low < r.stamp = above_first s.low s.high n.1 r (stamps_rise event_stamp s.low s.high n.1 s.stamped) there in
+    elim s.opening [
+      | inl a ↦ inl a.0
+      | inr b ↦ (
+          let low : b.1.stamp ≡ s.low = b.4 in
+          let own : Contains (all_lines j) (book_line b.1) = to_contains (all_lines j) (book_line b.1) (book_in j b.1 b.2) in
+          inr (book_line b.1, earlier j lines done rest (node_line n.0 r) (book_line b.1) e merge own (omega (arith, low, less)), ap AtMaster b.3)
           )
     ]
 
-removal : (j : Journals) (lines : List MergedStep) (chain : ℕ) → AreGood chain j → IsMerge j lines → (l : MergedStep) (stopped : NodeName) (stop : Receipt) → IsIn lines l → l.event ≡ AtMaster (books.Remove stopped stop) → Earlier lines l.stamp (IsStopOf stopped.node)
-removal j lines chain g merge l stopped stop i e =
-    elim (line_of j lines l merge i) [
-      | inr n ↦ absurd (other_kind l.event n.entry.event (books.Remove stopped stop) (ap (λ (x : MergedStep). x.event) n.is) e)
-      | inl b ↦ (
-          let event : b.entry.event ≡ books.Remove stopped stop = same_at_master l.event b.entry.event (books.Remove stopped stop) (ap (λ (x : MergedStep). x.event) b.is) e in
-          let w : NamesItsStop j (books.Remove stopped stop) = subst (NamesItsStop j) event (g.stops b.entry b.there) in
-          let at : b.entry.stamp ≡ l.stamp = ap (λ (x : MergedStep). x.stamp) b.is in
-          let less : stop.stamp < b.entry.stamp = subst (λ x. book_stamp x < b.entry.stamp) event (records_above book_stamp 0 g.high j.book b.entry g.stamped b.there) in
-          let same : w.1.stamp ≡ stop.stamp = w.4 in
-          record {
-            line = w.1;
-            there = is_line j lines w.1 merge (from_contains (all_lines j) w.1 w.2);
-            earlier = omega (arith, at, less, same);
-            is = (w.3 ∙ w.0, w.5);
-          }
-          )
+node_follows : (chain : ℕ) (j : Journals) (lines done rest : List MergedStep) (n : Kept) (r : Record Event) → AreGood chain j → IsMerge j lines → lines ≡ done ++ node_line n.0 r ∷ rest → IsIn j.nodes n → IsIn n.1 r → MayFollow j.members done n.0 (AtNode r.event)
+node_follows chain j lines done rest n r g merge e among there =
+    (has_joined chain j lines done rest n r g merge e among there, of_sent r.event j lines done rest (node_line n.0 r) e merge (g.sent n r among there))
+
+book_follows : (chain : ℕ) (j : Journals) (lines done rest : List MergedStep) (r : Record BookEvent) → AreGood chain j → IsMerge j lines → lines ≡ done ++ book_line r ∷ rest → IsIn j.book r → MayFollow j.members done 0 (AtMaster r.event)
+book_follows chain j lines done rest r g merge e there =
+    of_stopped r.event j lines done rest (book_line r) e merge (records_above book_stamp 0 g.high j.book r g.stamped there) (g.stops r there)
+
+pub follows : (chain : ℕ) (j : Journals) (lines done rest : List MergedStep) (l : MergedStep) → AreGood chain j → IsMerge j lines → lines ≡ done ++ l ∷ rest → MayFollow j.members done l.node l.event
+follows chain j lines done rest l g merge e =
+    elim (line_of j lines l merge (subst (λ ls. IsIn ls l) (sym e) (in_right done (l ∷ rest) l (inl refl)))) [
+      | inl b ↦ subst (λ (x : MergedStep). MayFollow j.members done x.node x.event) b.is (book_follows chain j lines done rest b.entry g merge (subst (λ x. lines ≡ done ++ x ∷ rest) (sym b.is) e) b.there)
+      | inr n ↦ subst (λ (x : MergedStep). MayFollow j.members done x.node x.event) n.is (node_follows chain j lines done rest n.kept n.entry g merge (subst (λ x. lines ≡ done ++ x ∷ rest) (sym n.is) e) n.among n.there)
     ]
 
-book_at_zero : (l : MergedStep) (r : Record BookEvent) → book_line r ≡ l → l.node ≡ 0
-book_at_zero l r e = ap (λ (x : MergedStep). x.node) (sym e)
-
-joining : (j : Journals) (lines : List MergedStep) (chain : ℕ) → AreGood chain j → IsMerge j lines → (l : MergedStep) → IsIn lines l → l.node ≢ 0 → (is_member j.members l.node ≡ true) ⊎ Earlier lines l.stamp (IsJoinOf l.node)
-joining j lines chain g merge l i z =
-    elim (line_of j lines l merge i) [
-      | inl b ↦ absurd (z (book_at_zero l b.entry b.is))
-      | inr n ↦ (
-          let s = g.nodes n.kept n.among in
-          let node : n.kept.0 ≡ l.node = ap (λ (x : MergedStep). x.node) n.is in
-          let at : n.entry.stamp ≡ l.stamp = ap (λ (x : MergedStep). x.stamp) n.is in
-          let less : s.low < n.entry.stamp = above_first s.low s.high n.kept.1 n.entry (stamps_rise event_stamp s.low s.high n.kept.1 s.stamped) n.there in
-          elim s.opening [
-            | inl a ↦ inl (subst (λ id. is_member j.members id ≡ true) node a.0)
-            | inr b ↦ (let low : b.1.stamp ≡ s.low = b.4 in inr (record {
-              line = book_line b.1;
-              there = is_line j lines (book_line b.1) merge (book_in j b.1 b.2);
-              earlier = omega (arith, low, less, at);
-              is = ap AtMaster b.3 ∙ ap (λ id. AtMaster (books.Join id)) node;
-            }))
-          ]
-          )
-    ]
-
-pub sound : (j : Journals) (lines : List MergedStep) (chain : ℕ) → AreGood chain j → IsMerge j lines → length lines ≤ greatest → length (all_sent lines) ≤ greatest → AreSound j.members lines
-sound j lines chain g merge few few_sent =
-    record {
-      order = rising lines merge.order;
-      arrivals = arrival j lines chain g merge;
-      removals = removal j lines chain g merge;
-      joined = joining j lines chain g merge;
-      few = few;
-      few_sent = few_sent;
-    }
+pub ordered : (chain : ℕ) (j : Journals) (lines done rest : List MergedStep) → AreGood chain j → IsMerge j lines → lines ≡ done ++ rest → AreOrdered j.members done rest
+ordered chain j lines done [] g merge e = tt
+ordered chain j lines done (l ∷ rest) g merge e =
+    (follows chain j lines done rest l g merge e, ordered chain j lines (done ++ l ∷ []) rest g merge (e ∙ sym (append_assoc done (l ∷ []) rest)))

@@ -1,22 +1,24 @@
 -- The lines of a merge at one node are its journal.
-use Rattle.std.proofs.Common.{◌≡◌, ◌≢◌, ◌<◌, ◌≤◌, ◌⊎◌, ℕ, List, [], ◌∷◌, map, refl, sym, ap, subst, arith, ◌∙◌, inl, inr}
+use Rattle.std.proofs.Common.{◌≡◌, ◌≢◌, ◌≤◌, ◌⊎◌, ℕ, List, [], ◌∷◌, map, refl, sym, ap, subst, arith, ◌∙◌, inl, inr}
 use Rattle.std.specs.Prelude.{flat_map}
 use Rattle.std.proofs.lemmas.List.Sorted.{Contains-permutation, IsPermutation-sym}
 use Rattle.craq_model.specs.declared.ask.Event.{Event}
 use Rattle.craq_seat.specs.declared.journal.BookEvent.{BookEvent}
 use Rattle.craq_seat.specs.declared.journal.Record.{Record}
 use Rattle.craq_seat.specs.Journal.{RisesTo}
-use Rattle.craq_seat.specs.Merge.{IsBefore, IsMerge, Journals, MergedStep, all_lines, book_line, node_line}
+use Rattle.craq_seat.specs.Merge.{IsMerge, Journals, MergedStep, all_lines, book_line, node_line}
 use Rattle.craq_merge.proofs.Counts.{count, count_cons, is_counted}
-use Rattle.craq_merge.proofs.Nodes.{same_or_not}
-use Rattle.craq_merge.proofs.Orders.{AreRising, IsIn, all_by, at_rising, from_at, from_contains, in_either, in_left, in_map, in_right, lines_at, of_map, rising, same_lines, to_at, to_contains}
+use Rattle.craq_causality.specs.Authors.{lines_of}
+use Rattle.craq_causality.proofs.Nodes.{same_or_not}
+use Rattle.craq_causality.proofs.Orders.{IsIn, from_at, from_contains, in_either, in_left, in_map, in_right, journal_rises, of_map, to_at, to_contains}
+use Rattle.craq_merge.proofs.Orders.{AreRising, at_rising, by_stamps, rising, same_lines}
 
 -- a node's id and its records
 abbrev pub Kept : Type 0
 Kept = ℕ × List (Record Event)
 
-abbrev pub lines_of : Kept → List MergedStep
-lines_of n = map (node_line n.0) n.1
+abbrev pub kept_lines : Kept → List MergedStep
+kept_lines n = map (node_line n.0) n.1
 
 -- ---- the elements of the lines
 
@@ -49,38 +51,24 @@ pub record OfNode (j : Journals) (l : MergedStep) : Type 0 where
 pub line_of : (j : Journals) (lines : List MergedStep) (l : MergedStep) → IsMerge j lines → IsIn lines l → OfBook j l ⊎ OfNode j l
 line_of j lines l m i =
     let c = from_contains (all_lines j) l (Contains-permutation lines (all_lines j) l (IsPermutation-sym (all_lines j) lines m.all) (to_contains lines l i)) in
-    elim (in_either (map book_line j.book) (flat_map lines_of j.nodes) l c) [
+    elim (in_either (map book_line j.book) (flat_map kept_lines j.nodes) l c) [
       | inl k ↦ (let t = of_map book_line j.book l k in inl (record { entry = t.0; there = t.1; is = t.2 }))
-      | inr k ↦ (let s = of_flat lines_of j.nodes l k in let t = of_map (node_line s.0.0) s.0.1 l s.2 in inr (record { kept = s.0; among = s.1; entry = t.0; there = t.1; is = t.2 }))
+      | inr k ↦ (let s = of_flat kept_lines j.nodes l k in let t = of_map (node_line s.0.0) s.0.1 l s.2 in inr (record { kept = s.0; among = s.1; entry = t.0; there = t.1; is = t.2 }))
     ]
 
 pub is_line : (j : Journals) (lines : List MergedStep) (l : MergedStep) → IsMerge j lines → IsIn (all_lines j) l → IsIn lines l
 is_line j lines l m i = from_contains lines l (Contains-permutation (all_lines j) lines l m.all (to_contains (all_lines j) l i))
 
 pub book_in : (j : Journals) (r : Record BookEvent) → IsIn j.book r → IsIn (all_lines j) (book_line r)
-book_in j r i = in_left (map book_line j.book) (flat_map lines_of j.nodes) (book_line r) (in_map book_line j.book r i)
+book_in j r i = in_left (map book_line j.book) (flat_map kept_lines j.nodes) (book_line r) (in_map book_line j.book r i)
 
 pub node_in : (j : Journals) (n : Kept) (r : Record Event) → IsIn j.nodes n → IsIn n.1 r → IsIn (all_lines j) (node_line n.0 r)
-node_in j n r i k = in_right (map book_line j.book) (flat_map lines_of j.nodes) (node_line n.0 r) (in_flat lines_of j.nodes n (node_line n.0 r) i (in_map (node_line n.0) n.1 r k))
+node_in j n r i k = in_right (map book_line j.book) (flat_map kept_lines j.nodes) (node_line n.0 r) (in_flat kept_lines j.nodes n (node_line n.0 r) i (in_map (node_line n.0) n.1 r k))
 
--- ---- journals ascend
-
-pub above_first : {E : Type 0} (first last : ℕ) (rs : List (Record E)) (r : Record E) → RisesTo first rs last → IsIn rs r → first < r.stamp
-above_first first last [] r h i = absurd i
-above_first first last (x ∷ rs) r h (inl e) = let a = h.0 in let s : x.stamp ≡ r.stamp = ap (λ y. y.stamp) e in omega (arith, a, s)
-above_first first last (x ∷ rs) r h (inr i) = let a = h.0 in let b = above_first x.stamp last rs r h.1 i in omega (arith, a, b)
+-- ---- a journal's lines ascend
 
 pub lines_rise : {E : Type 0} (line : Record E → MergedStep) → ((r : Record E) → (line r).stamp ≡ r.stamp) → (first last : ℕ) (rs : List (Record E)) → RisesTo first rs last → AreRising (map line rs)
-lines_rise line at first last [] h = tt
-lines_rise line at first last (r ∷ rs) h =
-    (all_by (IsBefore (line r)) (map line rs) (λ z i. inl (by_record z (of_map line rs z i))), lines_rise line at r.stamp last rs h.1)
-  where
-    by_record : (z : MergedStep) → (x : _) × IsIn rs x × (line x ≡ z) → (line r).stamp < z.stamp
-    by_record z (x, i, e) =
-        let a = above_first r.stamp last rs x h.1 i in
-        let b = at r in
-        let c : x.stamp ≡ z.stamp = sym (at x) ∙ ap (λ (y : MergedStep). y.stamp) e in
-        omega (arith, a, b, c)
+lines_rise line at first last rs h = by_stamps (map line rs) (journal_rises line at first last rs h)
 
 -- ---- one journal for an id
 
@@ -124,9 +112,9 @@ journal_at (x ∷ ns) id =
 
 -- ---- the lines at a node
 
-pub book_lines : (j : Journals) (lines : List MergedStep) (first last : ℕ) → IsMerge j lines → RisesTo first j.book last → ((n : Kept) → IsIn j.nodes n → n.0 ≢ 0) → lines_at 0 lines ≡ map book_line j.book
+pub book_lines : (j : Journals) (lines : List MergedStep) (first last : ℕ) → IsMerge j lines → RisesTo first j.book last → ((n : Kept) → IsIn j.nodes n → n.0 ≢ 0) → lines_of 0 lines ≡ map book_line j.book
 book_lines j lines first last m up other =
-    same_lines (lines_at 0 lines) (map book_line j.book) (at_rising 0 lines (rising lines m.order)) (lines_rise book_line (λ r. refl) first last j.book up)
+    same_lines (lines_of 0 lines) (map book_line j.book) (at_rising 0 lines (rising lines m.order)) (lines_rise book_line (λ r. refl) first last j.book up)
     (λ z i. let t = from_at 0 lines z i in elim (line_of j lines z m t.0) [
       | inl b ↦ subst (IsIn (map book_line j.book)) b.is (in_map book_line j.book b.entry b.there)
       | inr n ↦ absurd (other n.kept n.among (ap (λ (y : MergedStep). y.node) n.is ∙ t.1))
@@ -134,19 +122,19 @@ book_lines j lines first last m up other =
     (λ z i. let t = of_map book_line j.book z i in
     to_at 0 lines z (is_line j lines z m (subst (IsIn (all_lines j)) t.2 (book_in j t.0 t.1))) (ap (λ (y : MergedStep). y.node) (sym t.2)))
 
-pub node_lines : (j : Journals) (lines : List MergedStep) (n : Kept) (first last : ℕ) → IsMerge j lines → RisesTo first n.1 last → n.0 ≢ 0 → IsIn j.nodes n → ((k : Kept) → IsIn j.nodes k → k.0 ≡ n.0 → k ≡ n) → lines_at n.0 lines ≡ map (node_line n.0) n.1
+pub node_lines : (j : Journals) (lines : List MergedStep) (n : Kept) (first last : ℕ) → IsMerge j lines → RisesTo first n.1 last → n.0 ≢ 0 → IsIn j.nodes n → ((k : Kept) → IsIn j.nodes k → k.0 ≡ n.0 → k ≡ n) → lines_of n.0 lines ≡ map (node_line n.0) n.1
 node_lines j lines n first last m up z among one =
-    same_lines (lines_at n.0 lines) (lines_of n) (at_rising n.0 lines (rising lines m.order)) (lines_rise (node_line n.0) (λ r. refl) first last n.1 up)
+    same_lines (lines_of n.0 lines) (kept_lines n) (at_rising n.0 lines (rising lines m.order)) (lines_rise (node_line n.0) (λ r. refl) first last n.1 up)
     (λ x i. let t = from_at n.0 lines x i in elim (line_of j lines x m t.0) [
       | inl b ↦ absurd (z (sym t.1 ∙ ap (λ (y : MergedStep). y.node) (sym b.is)))
-      | inr k ↦ (let e = one k.kept k.among (ap (λ (y : MergedStep). y.node) k.is ∙ t.1) in subst (λ (y : Kept). IsIn (lines_of y) x) e (subst (IsIn (lines_of k.kept)) k.is (in_map (node_line k.kept.0) k.kept.1 k.entry k.there)))
+      | inr k ↦ (let e = one k.kept k.among (ap (λ (y : MergedStep). y.node) k.is ∙ t.1) in subst (λ (y : Kept). IsIn (kept_lines y) x) e (subst (IsIn (kept_lines k.kept)) k.is (in_map (node_line k.kept.0) k.kept.1 k.entry k.there)))
     ])
     (λ x i. let t = of_map (node_line n.0) n.1 x i in
     to_at n.0 lines x (is_line j lines x m (subst (IsIn (all_lines j)) t.2 (node_in j n t.0 among t.1))) (ap (λ (y : MergedStep). y.node) (sym t.2)))
 
-pub no_lines : (j : Journals) (lines : List MergedStep) (id : ℕ) → IsMerge j lines → id ≢ 0 → ((k : Kept) → IsIn j.nodes k → k.0 ≢ id) → lines_at id lines ≡ []
+pub no_lines : (j : Journals) (lines : List MergedStep) (id : ℕ) → IsMerge j lines → id ≢ 0 → ((k : Kept) → IsIn j.nodes k → k.0 ≢ id) → lines_of id lines ≡ []
 no_lines j lines id m z none =
-    same_lines (lines_at id lines) [] (at_rising id lines (rising lines m.order)) tt
+    same_lines (lines_of id lines) [] (at_rising id lines (rising lines m.order)) tt
     (λ x i. let t = from_at id lines x i in elim (line_of j lines x m t.0) [
       | inl b ↦ absurd (z (sym t.1 ∙ ap (λ (y : MergedStep). y.node) (sym b.is)))
       | inr k ↦ absurd (none k.kept k.among (ap (λ (y : MergedStep). y.node) k.is ∙ t.1))

@@ -11,10 +11,12 @@ use Rattle.craq_seat.specs.declared.journal.BookEvent.TheVariants as books
 use Rattle.craq_seat.specs.declared.journal.Record.{Record}
 use Rattle.craq_seat.specs.Journal.{Replays}
 use Rattle.craq_seat.specs.Merge.{AtNode, AtMaster, Happening, MergedStep, move_among, node_line}
-use Rattle.craq_merge.proofs.Orders.{AreRising, IsIn, in_either, in_get, lines_at, not_itself, of_map, to_at}
+use Rattle.craq_causality.specs.Authors.{lines_of}
+use Rattle.craq_causality.proofs.Orders.{IsIn, in_either, in_get, of_map, to_at}
+use Rattle.craq_causality.proofs.Walk.{taken_among}
+use Rattle.craq_merge.proofs.Orders.{AreRising, not_itself}
 use Rattle.craq_merge.proofs.Seen.{later_line}
 use Rattle.craq_merge.proofs.Tickets.{IsNextTicket, next_ticket}
-use Rattle.craq_merge.proofs.Walk.{taken_among}
 
 -- ---- tickets in a journal
 
@@ -122,7 +124,7 @@ same_asked : (a b m n : ℕ) (s t : Option ℕ) (x y : Ask) → a ≡ b → m �
 same_asked a b m n s t x y e f g h = rw (e, f, g, h) refl
 
 -- a request that is seen with the ticket of a record is the record's
-is_record : (lines : List MergedStep) (p last : Plain) (id place ticket : ℕ) (rs : List (Record Event)) (r : Record Event) (ask : Ask) (x : Asked) (k : ℕ) (l : MergedStep) (other : Ask) → AreRising lines → lines_at id lines ≡ map (node_line id) rs → Replays node_step p rs last → IsIn rs r → slice_get lines place ≡ Some (node_line id r) → r.event ≡ events.Ask ask → r.step.ticket ≡ Some ticket → slice_get lines k ≡ Some l → l.event ≡ AtNode (events.Ask other) → x ≡ asked_of (1 + k) l.node l.step.ticket other → x.node ≡ id → x.ticket ≡ Some ticket → x ≡ asked_of (suc place) id (Some ticket) ask
+is_record : (lines : List MergedStep) (p last : Plain) (id place ticket : ℕ) (rs : List (Record Event)) (r : Record Event) (ask : Ask) (x : Asked) (k : ℕ) (l : MergedStep) (other : Ask) → AreRising lines → lines_of id lines ≡ map (node_line id) rs → Replays node_step p rs last → IsIn rs r → slice_get lines place ≡ Some (node_line id r) → r.event ≡ events.Ask ask → r.step.ticket ≡ Some ticket → slice_get lines k ≡ Some l → l.event ≡ AtNode (events.Ask other) → x ≡ asked_of (1 + k) l.node l.step.ticket other → x.node ≡ id → x.ticket ≡ Some ticket → x ≡ asked_of (suc place) id (Some ticket) ask
 is_record lines p last id place ticket rs r ask x k l other up own replay there at event tick here asks is of with =
     let node : l.node ≡ id = ap (λ (y : Asked). y.node) (sym is) ∙ of in
     let ticket_too : l.step.ticket ≡ Some ticket = ap (λ (y : Asked). y.ticket) (sym is) ∙ with in
@@ -135,14 +137,14 @@ is_record lines p last id place ticket rs r ask x k l other up own replay there 
     let move : 1 + k ≡ suc place = omega (arith, places) in
     is ∙ same_asked (1 + k) (suc place) l.node id l.step.ticket (Some ticket) other ask move node ticket_too asked
 
-found_named : (lines : List MergedStep) (p last : Plain) (id place ticket : ℕ) (rs : List (Record Event)) (r : Record Event) (ask : Ask) (f : IsFound (λ (a : Asked). (a.node == id) && is_ticket a.ticket ticket) (asks_from 1 (map (taken_among lines) lines))) → IsAskOf lines 1 f.which → AreRising lines → lines_at id lines ≡ map (node_line id) rs → Replays node_step p rs last → IsIn rs r → slice_get lines place ≡ Some (node_line id r) → r.event ≡ events.Ask ask → r.step.ticket ≡ Some ticket → ask_with (asks_from 1 (map (taken_among lines) lines)) id ticket ≡ Some (asked_of (suc place) id (Some ticket) ask)
+found_named : (lines : List MergedStep) (p last : Plain) (id place ticket : ℕ) (rs : List (Record Event)) (r : Record Event) (ask : Ask) (f : IsFound (λ (a : Asked). (a.node == id) && is_ticket a.ticket ticket) (asks_from 1 (map (taken_among lines) lines))) → IsAskOf lines 1 f.which → AreRising lines → lines_of id lines ≡ map (node_line id) rs → Replays node_step p rs last → IsIn rs r → slice_get lines place ≡ Some (node_line id r) → r.event ≡ events.Ask ask → r.step.ticket ≡ Some ticket → ask_with (asks_from 1 (map (taken_among lines) lines)) id ticket ≡ Some (asked_of (suc place) id (Some ticket) ask)
 unfolding ask_with
 found_named lines p last id place ticket rs r ask f t up own replay there at event tick =
     let so = named_so f.which id ticket f.passes in
     f.found ∙ ap Some (is_record lines p last id place ticket rs r ask f.which t.place t.line t.ask up own replay there at event tick t.at t.event t.is so.0 so.1)
 
 -- the first request with the node and the ticket is the one of this record
-pub ask_named : (lines : List MergedStep) (p last : Plain) (id place ticket : ℕ) (rs : List (Record Event)) (r : Record Event) (ask : Ask) → AreRising lines → lines_at id lines ≡ map (node_line id) rs → Replays node_step p rs last → IsIn rs r → slice_get lines place ≡ Some (node_line id r) → r.event ≡ events.Ask ask → r.step.ticket ≡ Some ticket → IsIn (asks_from 1 (map (taken_among lines) lines)) (asked_of (suc place) id (Some ticket) ask) → ask_with (asks_from 1 (map (taken_among lines) lines)) id ticket ≡ Some (asked_of (suc place) id (Some ticket) ask)
+pub ask_named : (lines : List MergedStep) (p last : Plain) (id place ticket : ℕ) (rs : List (Record Event)) (r : Record Event) (ask : Ask) → AreRising lines → lines_of id lines ≡ map (node_line id) rs → Replays node_step p rs last → IsIn rs r → slice_get lines place ≡ Some (node_line id r) → r.event ≡ events.Ask ask → r.step.ticket ≡ Some ticket → IsIn (asks_from 1 (map (taken_among lines) lines)) (asked_of (suc place) id (Some ticket) ask) → ask_with (asks_from 1 (map (taken_among lines) lines)) id ticket ≡ Some (asked_of (suc place) id (Some ticket) ask)
 ask_named lines p last id place ticket rs r ask up own replay there at event tick seen =
     let asks : List Asked = asks_from 1 (map (taken_among lines) lines) in
     let passes : ((id == id) && (ticket == ticket)) ≡ true = grind arith in

@@ -1,63 +1,12 @@
 -- Lists of lines in order: their elements determine them.
-use Rattle.std.proofs.Common.{◌≡◌, ◌≢◌, ◌<◌, ◌≤◌, ◌⊎◌, ℕ, zero, suc, ◌==◌, List, [], ◌∷◌, ◌++◌, map, length, refl, sym, ap, subst, arith, ◌∙◌, inl, inr}
-use Rattle.std.specs.Prelude.{⊤, filter, Contains, slice_get, Some}
+use Rattle.std.proofs.Common.{◌≡◌, ◌<◌, ◌≤◌, ◌⊎◌, ℕ, ◌==◌, List, [], ◌∷◌, ◌++◌, refl, sym, ap, subst, arith, ◌∙◌, inl, inr}
+use Rattle.std.specs.Prelude.{⊤}
 use Rattle.std.specs.List.{AllByRecursion}
-use Rattle.std.proofs.lemmas.Bool.{cond_both, eqb-true}
+use Rattle.std.proofs.lemmas.Bool.{cond_both}
 use Rattle.craq_seat.specs.Merge.{MergedStep, IsBefore, AreInOrder}
-
--- ---- the elements of a list
-
-abbrev pub IsIn : {X : Type 0} → List X → X → Type 0
-IsIn {X} [] x = ⊥
-IsIn {X} (y ∷ ys) x = (y ≡ x) ⊎ IsIn ys x
-
-pub from_contains : {X : Type 0} (xs : List X) (x : X) → Contains xs x → IsIn xs x
-from_contains [] x (k, less, is) = absurd (omega (arith, less))
-from_contains (y ∷ ys) x (zero, less, is) = inl is
-from_contains (y ∷ ys) x (suc k, less, is) = inr (from_contains ys x (k, omega (arith, less), is))
-
-pub to_contains : {X : Type 0} (xs : List X) (x : X) → IsIn xs x → Contains xs x
-to_contains [] x i = absurd i
-to_contains (y ∷ ys) x (inl e) = (0, omega arith, e)
-to_contains (y ∷ ys) x (inr i) = let c = to_contains ys x i in (suc c.0, (let l : c.0 < length ys = c.1 in omega arith), c.2)
-
-pub in_left : {X : Type 0} (xs ys : List X) (x : X) → IsIn xs x → IsIn (xs ++ ys) x
-in_left [] ys x i = absurd i
-in_left (y ∷ xs) ys x (inl e) = inl e
-in_left (y ∷ xs) ys x (inr i) = inr (in_left xs ys x i)
-
-pub in_right : {X : Type 0} (xs ys : List X) (x : X) → IsIn ys x → IsIn (xs ++ ys) x
-in_right [] ys x i = i
-in_right (y ∷ xs) ys x i = inr (in_right xs ys x i)
-
-pub in_either : {X : Type 0} (xs ys : List X) (x : X) → IsIn (xs ++ ys) x → IsIn xs x ⊎ IsIn ys x
-in_either [] ys x i = inr i
-in_either (y ∷ xs) ys x (inl e) = inl (inl e)
-in_either (y ∷ xs) ys x (inr i) = elim (in_either xs ys x i) [ inl a ↦ inl (inr a) | inr b ↦ inr b ]
-
-pub in_map : {X Y : Type 0} (f : X → Y) (xs : List X) (x : X) → IsIn xs x → IsIn (map f xs) (f x)
-in_map f [] x i = absurd i
-in_map f (y ∷ xs) x (inl e) = inl (ap f e)
-in_map f (y ∷ xs) x (inr i) = inr (in_map f xs x i)
-
-pub of_map : {X Y : Type 0} (f : X → Y) (xs : List X) (y : Y) → IsIn (map f xs) y → (x : X) × IsIn xs x × (f x ≡ y)
-of_map f [] y i = absurd i
-of_map f (x ∷ xs) y (inl e) = (x, inl refl, e)
-of_map f (x ∷ xs) y (inr i) = let r = of_map f xs y i in (r.0, inr r.1, r.2)
-
-pub all_in : {X : Type 0} (P : X → Type 0) (xs : List X) (x : X) → AllByRecursion P xs → IsIn xs x → P x
-all_in P [] x a i = absurd i
-all_in P (y ∷ xs) x a (inl e) = subst P e a.0
-all_in P (y ∷ xs) x a (inr i) = all_in P xs x a.1 i
-
-pub all_by : {X : Type 0} (P : X → Type 0) (xs : List X) → ((x : X) → IsIn xs x → P x) → AllByRecursion P xs
-all_by P [] f = tt
-all_by P (x ∷ xs) f = (f x (inl refl), all_by P xs (λ y i. f y (inr i)))
-
-pub in_get : {X : Type 0} (xs : List X) (k : ℕ) (x : X) → slice_get xs k ≡ Some x → IsIn xs x
-in_get [] k x h = cc
-in_get (y ∷ xs) zero x h = inl cc
-in_get (y ∷ xs) (suc k) x h = inr (in_get xs k x h)
+use Rattle.craq_causality.specs.Authors.{lines_of}
+use Rattle.craq_causality.proofs.Orders.{IsIn, all_by, all_in, from_at, in_either}
+use Rattle.craq_causality.proofs.Orders as authors
 
 -- ---- the order of lines
 
@@ -80,6 +29,10 @@ pub no_later : (a b : MergedStep) → IsBefore a b → a.stamp ≤ b.stamp
 no_later a b (inl h) = omega (arith, h)
 no_later a b (inr h) = let s = h.0 in omega (arith, s)
 
+pub apart_by_stamp : (a b : MergedStep) → IsBefore a b → a.node ≡ b.node → a.stamp < b.stamp
+apart_by_stamp a b (inl h) e = h
+apart_by_stamp a b (inr h) e = let n = h.1 in absurd (omega (arith, n, e))
+
 -- each line precedes all that follow
 abbrev pub AreRising : List MergedStep → Type 0
 AreRising [] = ⊤
@@ -91,6 +44,25 @@ rising (a ∷ []) h = (tt, tt)
 rising (a ∷ b ∷ ls) h =
     let r = rising (b ∷ ls) h.1 in
     ((h.0, all_by (IsBefore a) ls (λ x i. before_both a b x h.0 (all_in (IsBefore b) ls x r.0 i))), r)
+
+-- lines with rising stamps are in order
+pub by_stamps : (ls : List MergedStep) → authors.AreRising ls → AreRising ls
+by_stamps [] r = tt
+by_stamps (a ∷ ls) r = (all_by (IsBefore a) ls (λ x i. inl (all_in (λ (b : MergedStep). a.stamp < b.stamp) ls x r.0 i)), by_stamps ls r.1)
+
+-- a line with a lower stamp stands before
+pub is_done : (lines done rest : List MergedStep) (l s : MergedStep) → lines ≡ done ++ l ∷ rest → AreRising lines → IsIn lines s → s.stamp < l.stamp → IsIn done s
+is_done lines done rest l s e r i less =
+    of_parts done (subst AreRising e r) (in_either done (l ∷ rest) s (subst (λ ls. IsIn ls s) e i))
+  where
+    later : (ds : List MergedStep) → AreRising (ds ++ l ∷ rest) → AreRising (l ∷ rest)
+    later [] r = r
+    later (d ∷ ds) r = later ds r.1
+
+    of_parts : (ds : List MergedStep) → AreRising (ds ++ l ∷ rest) → IsIn ds s ⊎ ((l ≡ s) ⊎ IsIn rest s) → IsIn ds s
+    of_parts ds r (inl i) = i
+    of_parts ds r (inr (inl same)) = let f : l.stamp ≡ s.stamp = ap (λ (x : MergedStep). x.stamp) same in absurd (omega (arith, f, less))
+    of_parts ds r (inr (inr i)) = let f = no_later l s (all_in (IsBefore l) rest s (later ds r).0 i) in absurd (omega (arith, f, less))
 
 -- ascending lists with the same lines are equal
 heads : (x y : MergedStep) (xs ys : List MergedStep) → AreRising (x ∷ xs) → AreRising (y ∷ ys) → (y ≡ x) ⊎ IsIn ys x → (x ≡ y) ⊎ IsIn xs y → x ≡ y
@@ -113,36 +85,9 @@ same_lines (x ∷ xs) (y ∷ ys) r s f g =
 
 -- ---- the lines of one node
 
-abbrev pub lines_at : ℕ → List MergedStep → List MergedStep
-lines_at id ls = filter (λ (l : MergedStep). l.node == id) ls
-
-pub at_here : (id : ℕ) (l : MergedStep) (ls : List MergedStep) → l.node ≡ id → lines_at id (l ∷ ls) ≡ l ∷ lines_at id ls
-at_here id l ls e = grind (arith, e)
-
-pub at_other : (id : ℕ) (l : MergedStep) (ls : List MergedStep) → l.node ≢ id → lines_at id (l ∷ ls) ≡ lines_at id ls
-at_other id l ls n = grind (arith, n)
-
-pub to_at : (id : ℕ) (ls : List MergedStep) (z : MergedStep) → IsIn ls z → z.node ≡ id → IsIn (lines_at id ls) z
-to_at id [] z i e = absurd i
-to_at id (l ∷ ls) z (inl s) e =
-    rw (at_here id l ls (ap (λ (x : MergedStep). x.node) s ∙ e)) (inl s)
-to_at id (l ∷ ls) z (inr i) e =
-    cond_both (l.node == id) (l ∷ lines_at id ls) (lines_at id ls) (λ xs. IsIn xs z) (λ b. inr (to_at id ls z i e)) (λ b. to_at id ls z i e)
-
-abbrev IsOf : ℕ → List MergedStep → MergedStep → Type 0
-IsOf id ls z = IsIn ls z × (z.node ≡ id)
-
-pub from_at : (id : ℕ) (ls : List MergedStep) (z : MergedStep) → IsIn (lines_at id ls) z → IsIn ls z × (z.node ≡ id)
-from_at id [] z i = absurd i
-from_at id (l ∷ ls) z i =
-    cond_both (l.node == id) (l ∷ lines_at id ls) (lines_at id ls) (λ xs. IsIn xs z → IsOf id (l ∷ ls) z)
-    (λ b k. elim k [ inl s ↦ (inl s, ap (λ (x : MergedStep). x.node) (sym s) ∙ eqb-true l.node id b) | inr m ↦ (let r = from_at id ls z m in (inr r.0, r.1)) ])
-    (λ b k. let r = from_at id ls z k in (inr r.0, r.1))
-    i
-
-pub at_rising : (id : ℕ) (ls : List MergedStep) → AreRising ls → AreRising (lines_at id ls)
+pub at_rising : (id : ℕ) (ls : List MergedStep) → AreRising ls → AreRising (lines_of id ls)
 at_rising id [] r = tt
 at_rising id (l ∷ ls) r =
-    cond_both (l.node == id) (l ∷ lines_at id ls) (lines_at id ls) AreRising
-    (λ b. (all_by (IsBefore l) (lines_at id ls) (λ x i. all_in (IsBefore l) ls x r.0 (from_at id ls x i).0), at_rising id ls r.1))
+    cond_both (l.node == id) (l ∷ lines_of id ls) (lines_of id ls) AreRising
+    (λ b. (all_by (IsBefore l) (lines_of id ls) (λ x i. all_in (IsBefore l) ls x r.0 (from_at id ls x i).0), at_rising id ls r.1))
     (λ b. at_rising id ls r.1)

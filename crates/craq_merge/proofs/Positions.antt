@@ -7,9 +7,9 @@ use Rattle.craq_runs.specs.Seen.{Asked, Seen, ask_of, seen}
 use Rattle.craq_runs.specs.Valid.{IsExplained, OnlyGrows, committed_after}
 use Rattle.craq_seat.specs.Calls.{Called}
 use Rattle.craq_seat.specs.Merge.{MergedStep, run_of}
+use Rattle.craq_causality.proofs.Walk.{taken_among}
 use Rattle.craq_merge.specs.Within.{IsWithin, run_answer_of_call, ask_of_call, line_at}
 use Rattle.craq_merge.proofs.Calls.{passes_order}
-use Rattle.craq_merge.proofs.Walk.{taken_among}
 
 -- the list only grows
 grown : (s : Seen) (e : Explanation) (i d : ℕ) → OnlyGrows s e → i + d ≤ s.moves → committed_after e i ≤ committed_after e (i + d)

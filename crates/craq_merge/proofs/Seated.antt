@@ -10,6 +10,7 @@ use Rattle.craq_model.specs.Plain.{Plain, opening_joined, opening_member}
 use Rattle.craq_epochs.specs.Mastered.{Mastered}
 use Rattle.craq_node.specs.Represented.{opening_of}
 use Rattle.craq_runs.specs.Runs.{IsRunOf}
+use Rattle.craq_runs.specs.Typed.{IsTypedRunOf}
 use Rattle.craq_seat.specs.declared.journal.BookEvent.{BookEvent}
 use Rattle.craq_seat.specs.declared.journal.BookEvent.TheVariants as books
 use Rattle.craq_seat.specs.declared.journal.Opening.{Opening}
@@ -21,12 +22,16 @@ use Rattle.craq_seat.specs.Journal.{IsStamped, Stands}
 use Rattle.craq_seat.specs.Kept.{IsKept}
 use Rattle.craq_seat.specs.Merge.{IsMerge, Journals, MergedStep, book_line, node_line, run_of}
 use Rattle.craq_seat.specs.Stamps.{book_stamp, event_stamp}
+use Rattle.craq_causality.specs.Authors.{lines_of}
+use Rattle.craq_causality.specs.Causal.{AreCausal}
+use Rattle.craq_causality.proofs.Orders.{IsIn, all_in, from_contains}
+use Rattle.craq_causality.proofs.Start.{is_run, is_typed_run}
 use Rattle.craq_merge.specs.Merged.{AreSeated, CanBeNumbered}
+use Rattle.craq_merge.specs.Within.{AreAsksOfType}
+use Rattle.craq_merge.proofs.Causal.{book_journal, causal, node_journal, typed}
 use Rattle.craq_merge.proofs.Counts.{count, count_same}
 use Rattle.craq_merge.proofs.Good.{AreGood, IsFirst, IsLater, IsStarted}
 use Rattle.craq_merge.proofs.Journals.{Kept, ids_of}
-use Rattle.craq_merge.proofs.Orders.{IsIn, all_in, from_contains, lines_at}
-use Rattle.craq_merge.proofs.Start.{book_journal, is_run, node_journal}
 
 -- a journal's cell
 cell_of : {C : Type 0} (cs : List (Celled C Event)) (ns : List Kept) (n : Kept) → AreJournalsOf cs ns → IsIn ns n → (c : Celled C Event) × IsIn cs c × IsJournalOf c n
@@ -112,13 +117,21 @@ good R book cells j s =
       sent = λ n r i k. all_in (HasSender j) n.1 r (all_in (λ (n : Kept). AllByRecursion (HasSender j) n.1) j.nodes n s.sent i) k;
     }
 
+-- ---- the merge
+
+pub seated_causal : {C : Type 0} (R : C → Plain → Type 0) (book : Celled Mastered BookEvent) (cells : List (Celled C Event)) (j : Journals) (lines : List MergedStep) → AreSeated R book cells j → IsMerge j lines → AreCausal book.opening.name.chain j.members lines
+seated_causal R book cells j lines s m = causal book.opening.name.chain j lines (good R book cells j s) m
+
 pub seated_run : {C : Type 0} (R : C → Plain → Type 0) (book : Celled Mastered BookEvent) (cells : List (Celled C Event)) (j : Journals) (lines : List MergedStep) → AreSeated R book cells j → IsMerge j lines → CanBeNumbered lines → IsRunOf book.opening.name.chain (run_of j.members lines)
-seated_run R book cells j lines s m fit = is_run book.opening.name.chain j lines (good R book cells j s) m fit.moves fit.messages
+seated_run R book cells j lines s m fit = is_run book.opening.name.chain j.members lines (seated_causal R book cells j lines s m) fit
+
+pub typed_run : {C : Type 0} (R : C → Plain → Type 0) (book : Celled Mastered BookEvent) (cells : List (Celled C Event)) (j : Journals) (lines : List MergedStep) → AreSeated R book cells j → IsMerge j lines → CanBeNumbered lines → AreAsksOfType j → IsTypedRunOf book.opening.name.chain (run_of j.members lines)
+typed_run R book cells j lines s m fit a = is_typed_run book.opening.name.chain j.members lines (seated_causal R book cells j lines s m) (typed j lines m a) fit
 
 -- ---- the lines at a node
 
-pub seated_node : {C : Type 0} (R : C → Plain → Type 0) (book : Celled Mastered BookEvent) (cells : List (Celled C Event)) (j : Journals) (lines : List MergedStep) (id : ℕ) (rs : List (Record Event)) → AreSeated R book cells j → IsMerge j lines → Contains j.nodes (id, rs) → lines_at id lines ≡ map (node_line id) rs
+pub seated_node : {C : Type 0} (R : C → Plain → Type 0) (book : Celled Mastered BookEvent) (cells : List (Celled C Event)) (j : Journals) (lines : List MergedStep) (id : ℕ) (rs : List (Record Event)) → AreSeated R book cells j → IsMerge j lines → Contains j.nodes (id, rs) → lines_of id lines ≡ map (node_line id) rs
 seated_node R book cells j lines id rs s m i = node_journal book.opening.name.chain j lines (good R book cells j s) m (id, rs) (from_contains j.nodes (id, rs) i)
 
-pub seated_book : {C : Type 0} (R : C → Plain → Type 0) (book : Celled Mastered BookEvent) (cells : List (Celled C Event)) (j : Journals) (lines : List MergedStep) → AreSeated R book cells j → IsMerge j lines → lines_at 0 lines ≡ map book_line j.book
+pub seated_book : {C : Type 0} (R : C → Plain → Type 0) (book : Celled Mastered BookEvent) (cells : List (Celled C Event)) (j : Journals) (lines : List MergedStep) → AreSeated R book cells j → IsMerge j lines → lines_of 0 lines ≡ map book_line j.book
 seated_book R book cells j lines s m = book_journal book.opening.name.chain j lines (good R book cells j s) m

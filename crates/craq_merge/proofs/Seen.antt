@@ -11,13 +11,14 @@ use Rattle.craq_model.specs.declared.step.Out.TheVariants as outs
 use Rattle.craq_runs.specs.Chain.{Chain, sent_in}
 use Rattle.craq_runs.specs.Seen.{ask_in, asks_from, answers_in, answers_from, node_of, receivers_in}
 use Rattle.craq_seat.specs.Merge.{AtNode, IsBefore, MergedStep, move_among}
-use Rattle.craq_merge.proofs.AtNodes.{receivers_of}
-use Rattle.craq_merge.proofs.Numbers.{all_sent, all_sent-append}
-use Rattle.craq_merge.proofs.Orders.{AreRising, IsIn, all_in, in_get, in_left, in_right}
-use Rattle.craq_merge.proofs.Reached.{AreSound, IsReached}
 use Rattle.craq_seat.specs.Numbered.{AreFrom}
-use Rattle.craq_merge.proofs.Senders.{receivers_same}
-use Rattle.craq_merge.proofs.Walk.{next_line, taken_among}
+use Rattle.craq_causality.proofs.AtNodes.{receivers_of}
+use Rattle.craq_causality.proofs.Numbers.{all_sent, all_sent-append}
+use Rattle.craq_causality.proofs.Orders.{IsIn, all_in, in_get, in_left, in_right}
+use Rattle.craq_causality.proofs.Reached.{AreSound, IsReached}
+use Rattle.craq_causality.proofs.Senders.{receivers_same}
+use Rattle.craq_causality.proofs.Walk.{next_line, taken_among}
+use Rattle.craq_merge.proofs.Orders.{AreRising}
 
 -- ---- places
 

@@ -12,15 +12,16 @@ use Rattle.craq_seat.specs.Cells.{Celled}
 use Rattle.craq_seat.specs.Merge.{AreInOrder, IsBefore, IsMerge, Journals, MergedStep, all_lines, book_line, node_line}
 use Rattle.craq_seat.specs.Stamps.{book_stamp, event_stamp}
 use Rattle.craq_seat.proofs.Taking.{stamps_rise}
+use Rattle.craq_causality.proofs.Nodes.{same_or_not}
+use Rattle.craq_causality.proofs.Orders.{IsIn, all_in, of_map}
 use Rattle.craq_merge.specs.Merged.{AreSeated}
 use Rattle.craq_merge.specs.Sorted.{AreSorted}
+use Rattle.craq_merge.proofs.Causal.{own_counts, own_zero}
 use Rattle.craq_merge.proofs.Counts.{count, count_cons}
 use Rattle.craq_merge.proofs.Good.{AreGood}
-use Rattle.craq_merge.proofs.Journals.{Kept, counted_in, ids_of, lines_of, lines_rise, of_flat}
-use Rattle.craq_merge.proofs.Nodes.{same_or_not}
-use Rattle.craq_merge.proofs.Orders.{AreRising, IsIn, all_in, of_map}
+use Rattle.craq_merge.proofs.Journals.{Kept, counted_in, ids_of, kept_lines, lines_rise, of_flat}
+use Rattle.craq_merge.proofs.Orders.{AreRising}
 use Rattle.craq_merge.proofs.Seated.{good}
-use Rattle.craq_merge.proofs.Start.{own_counts, own_zero}
 
 -- the number of lines with this node and stamp
 abbrev one : ℕ → ℕ → MergedStep → ℕ
@@ -60,20 +61,20 @@ has l node stamp n s = grind (arith, n, s)
 
 -- ---- in the journals
 
-node_of_line : (ns : List Kept) (l : MergedStep) → IsIn (flat_map lines_of ns) l → (k : Kept) × IsIn ns k × (k.0 ≡ l.node)
+node_of_line : (ns : List Kept) (l : MergedStep) → IsIn (flat_map kept_lines ns) l → (k : Kept) × IsIn ns k × (k.0 ≡ l.node)
 node_of_line ns l i =
-    let t = of_flat lines_of ns l i in
+    let t = of_flat kept_lines ns l i in
     let u = of_map (node_line t.0.0) t.0.1 l t.2 in
     (t.0, t.1, ap (λ (x : MergedStep). x.node) u.2)
 
-nodes_have : (node stamp : ℕ) (ns : List Kept) → ((k : Kept) → IsIn ns k → AreRising (lines_of k)) → ((id : ℕ) → count id (ids_of ns) ≤ 1) → total node stamp (flat_map lines_of ns) ≤ 1
+nodes_have : (node stamp : ℕ) (ns : List Kept) → ((k : Kept) → IsIn ns k → AreRising (kept_lines k)) → ((id : ℕ) → count id (ids_of ns) ≤ 1) → total node stamp (flat_map kept_lines ns) ≤ 1
 nodes_have node stamp [] r once = omega arith
 nodes_have node stamp (x ∷ ns) r once =
-    let a = total_append node stamp (lines_of x) (flat_map lines_of ns) in
+    let a = total_append node stamp (kept_lines x) (flat_map kept_lines ns) in
     let b = nodes_have node stamp ns (λ k i. r k (inr i)) (λ id. let t = once id in let d = count_cons id x.0 (ids_of ns) in omega (arith, t, d)) in
-    let c = one_has node stamp (lines_of x) (r x (inl refl)) in
-    let own : x.0 ≢ node → total node stamp (lines_of x) ≡ 0 = λ d. none_has node stamp (lines_of x) (λ l i e f. let u = of_map (node_line x.0) x.1 l i in d (ap (λ (y : MergedStep). y.node) u.2 ∙ e)) in
-    let others : x.0 ≡ node → total node stamp (flat_map lines_of ns) ≡ 0 = λ e. none_has node stamp (flat_map lines_of ns) (λ l i n s. let t = node_of_line ns l i in
+    let c = one_has node stamp (kept_lines x) (r x (inl refl)) in
+    let own : x.0 ≢ node → total node stamp (kept_lines x) ≡ 0 = λ d. none_has node stamp (kept_lines x) (λ l i e f. let u = of_map (node_line x.0) x.1 l i in d (ap (λ (y : MergedStep). y.node) u.2 ∙ e)) in
+    let others : x.0 ≡ node → total node stamp (flat_map kept_lines ns) ≡ 0 = λ e. none_has node stamp (flat_map kept_lines ns) (λ l i n s. let t = node_of_line ns l i in
     let same : x.0 ≡ t.0.0 = e ∙ sym n ∙ sym t.2 in
     let p = counted_in ns t.0 t.1 in
     let q = once t.0.0 in
@@ -83,11 +84,11 @@ nodes_have node stamp (x ∷ ns) r once =
 
 all_have : (chain : ℕ) (j : Journals) (g : AreGood chain j) (node stamp : ℕ) → total node stamp (all_lines j) ≤ 1
 all_have chain j g node stamp =
-    let a = total_append node stamp (map book_line j.book) (flat_map lines_of j.nodes) in
+    let a = total_append node stamp (map book_line j.book) (flat_map kept_lines j.nodes) in
     let b = one_has node stamp (map book_line j.book) (lines_rise book_line (λ r. refl) 0 g.high j.book (stamps_rise book_stamp 0 g.high j.book g.stamped)) in
     let c = nodes_have node stamp j.nodes (λ k i. let s = g.nodes k i in lines_rise (node_line k.0) (λ r. refl) s.low s.high k.1 (stamps_rise event_stamp s.low s.high k.1 s.stamped)) (own_counts chain j g) in
     elim (same_or_not node 0) [
-      | inl e ↦ (let o = none_has node stamp (flat_map lines_of j.nodes) (λ l i n s. let t = node_of_line j.nodes l i in own_zero chain j g t.0 t.1 (t.2 ∙ n ∙ e)) in omega (arith, a, b, o))
+      | inl e ↦ (let o = none_has node stamp (flat_map kept_lines j.nodes) (λ l i n s. let t = node_of_line j.nodes l i in own_zero chain j g t.0 t.1 (t.2 ∙ n ∙ e)) in omega (arith, a, b, o))
       | inr d ↦ (let o = none_has node stamp (map book_line j.book) (λ l i n s. let u = of_map book_line j.book l i in d (sym n ∙ ap (λ (y : MergedStep). y.node) (sym u.2))) in omega (arith, a, c, o))
     ]
 

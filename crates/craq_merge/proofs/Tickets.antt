@@ -126,7 +126,7 @@ reply_transition-ticket : (p : Plain) (position : ℕ) (reply : Reply) (sends : 
 unfolding reply_transition
 reply_transition-ticket p position reply sends = grind (arith)
 
--- the same for a node that has committed
+-- a node that has committed gives a reply under its next ticket
 replies_after : (p : Plain) (position : ℕ) (reply : Reply) (sends : List Out) → Gives p.last_ticket (reply_transition (committed_if_last p) position reply sends)
 replies_after p position reply sends = subst (λ (n : ℕ). Gives n (reply_transition (committed_if_last p) position reply sends)) (commits-ticket p) (reply_transition-ticket (committed_if_last p) position reply sends)
 

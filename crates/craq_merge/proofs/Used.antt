@@ -10,9 +10,9 @@ use Rattle.craq_seat.specs.declared.journal.BookEvent.TheVariants as books
 use Rattle.craq_seat.specs.declared.journal.Record.{Record}
 use Rattle.craq_seat.specs.Books.{book_step}
 use Rattle.craq_seat.specs.Journal.{Replays}
+use Rattle.craq_causality.proofs.Masters.{is_reported}
+use Rattle.craq_causality.proofs.Orders.{IsIn}
 use Rattle.craq_merge.proofs.Counts.{count, count_push, none_counted}
-use Rattle.craq_merge.proofs.Masters.{is_reported}
-use Rattle.craq_merge.proofs.Orders.{IsIn}
 
 -- a new id is not 0
 pub new_id : (m n : Mastered) (id : ℕ) → master_after_join m id ≡ Ok n → (id ≢ 0) × (is_member m.used id ≡ false)

@@ -1,11 +1,9 @@
 -- Cells whose merged journals are a run.
-use Rattle.std.specs.Prelude.{◌≤◌, ℕ, List, flat_map, length}
+use Rattle.std.specs.Prelude.{ℕ, List}
 use Rattle.std.specs.List.{AllByRecursion}
-use Rattle.craq_names.specs.Limits.{greatest}
 use Rattle.craq_model.specs.declared.ask.Event.{Event}
 use Rattle.craq_model.specs.Plain.{Plain}
 use Rattle.craq_epochs.specs.Mastered.{Mastered}
-use Rattle.craq_runs.specs.Chain.{sent_in}
 use Rattle.craq_seat.specs.declared.journal.BookEvent.{BookEvent}
 use Rattle.craq_seat.specs.declared.journal.Record.{Record}
 use Rattle.craq_seat.specs.Audits.{AreKept, AreOfChain, HasSender}
@@ -13,6 +11,7 @@ use Rattle.craq_seat.specs.Books.{IsBook}
 use Rattle.craq_seat.specs.Cells.{Celled}
 use Rattle.craq_seat.specs.Kept.{IsKept}
 use Rattle.craq_seat.specs.Merge.{Journals, MergedStep}
+use Rattle.craq_causality.specs.Causal.{AreFew}
 
 -- the cells of a chain that keep these journals, in which each message that arrived was sent
 pub record AreSeated {C : Type 0} (represents : C → Plain → Type 0) (book : Celled Mastered BookEvent) (cells : List (Celled C Event)) (j : Journals) : Type 0 where
@@ -23,6 +22,5 @@ pub record AreSeated {C : Type 0} (represents : C → Plain → Type 0) (book : 
   pub sent : AllByRecursion (λ (n : ℕ × List (Record Event)). AllByRecursion (HasSender j) n.1) j.nodes
 
 -- there are numbers for all these steps and for all their messages
-pub record CanBeNumbered (lines : List MergedStep) : Type 0 where
-  pub moves : length lines ≤ greatest
-  pub messages : length (flat_map (λ (l : MergedStep). sent_in l.step.outs) lines) ≤ greatest
+abbrev pub CanBeNumbered : List MergedStep → Type 0
+CanBeNumbered lines = AreFew lines

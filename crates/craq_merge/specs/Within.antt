@@ -1,27 +1,19 @@
 -- The calls of clients in a merge.
-use Rattle.std.specs.Prelude.{◌≡◌, ◌<◌, ◌≤◌, ℕ, zero, suc, ⊤, List, Option, Some, None, slice_get, Contains}
+use Rattle.std.specs.Prelude.{◌≡◌, ◌<◌, ◌≤◌, ℕ, zero, suc, List, Option, Some, None, slice_get, Contains}
 use Rattle.std.specs.List.{AllByRecursion}
 use Rattle.craq_model.specs.declared.ask.Event.{Event}
-use Rattle.craq_model.specs.declared.ask.Event.TheVariants as events
 use Rattle.craq_runs.specs.declared.run.Run.{Run}
 use Rattle.craq_runs.specs.Seen.{Asked, Answered, ask_with, seen}
-use Rattle.craq_runs.specs.Typed.{IsAskOfType}
 use Rattle.craq_seat.specs.declared.journal.Receipt.{Receipt}
 use Rattle.craq_seat.specs.declared.journal.Record.{Record}
 use Rattle.craq_seat.specs.Calls.{Called}
-use Rattle.craq_seat.specs.Merge.{Journals, MergedStep}
-
--- a requested transaction is within the limits of its type
-abbrev pub IsEventOfType : Event → Type 0
-IsEventOfType (events.Ask ask) = IsAskOfType ask
-IsEventOfType (events.Deliver m) = ⊤
-IsEventOfType events.Tick = ⊤
-IsEventOfType events.Stop = ⊤
+use Rattle.craq_seat.specs.Merge.{AtNode, Journals, MergedStep}
+use Rattle.craq_causality.specs.Causal.{IsOfType}
 
 -- each requested transaction in these journals is within the limits of its type
 abbrev pub AreAsksOfType : Journals → Type 0
 AreAsksOfType j =
-    AllByRecursion (λ (n : ℕ × List (Record Event)). AllByRecursion (λ (r : Record Event). IsEventOfType r.event) n.1) j.nodes
+    AllByRecursion (λ (n : ℕ × List (Record Event)). AllByRecursion (λ (r : Record Event). IsOfType (AtNode r.event)) n.1) j.nodes
 
 -- the line of a number, counted from 1
 abbrev pub line_at : List MergedStep → ℕ → Option MergedStep

@@ -27,6 +27,7 @@ ghost use Rattle.craq_seat.specs.Journal.{AreStamped};
 ghost use Rattle.craq_seat.specs.Kept.{IsKept};
 ghost use Rattle.craq_seat.specs.Merge.{IsMerge, Journals, MergedStep, all_lines, book_line, node_line, run_of};
 ghost use Rattle.craq_seat.specs.Stamps.{book_stamp, event_stamp};
+ghost use Rattle.craq_causality.specs.Causal.{AreCausal};
 ghost use Rattle.craq_merge.specs.Merged.{AreSeated, CanBeNumbered};
 ghost use Rattle.craq_merge.specs.Sorted.{AreSorted};
 ghost use Rattle.craq_merge.specs.Within.{AreAsksOfType, IsWithin, run_answer_of_call};
@@ -65,9 +66,12 @@ pub fn merge_keeps_journals<C: Core>()
         → filter (λ (l : MergedStep). l.node == 0) lines ≡ map book_line j.book }
 {}
 
-/// States that the merge of a chain's journals is a run of that chain, if there are numbers for its
-/// moves and messages; and a run of values that the types allow, if its requests are.
+/// States that the merge of a chain's journals is in causal order. It is a run of that chain, if
+/// there are numbers for its moves and messages; and a run of values that the types allow, if its
+/// requests are.
 pub fn merge_is_a_run<C: Core>()
+    ensures causal { (book : Celled Mastered BookEvent) (cells : List (Celled C Event)) (j : Journals) (lines : List MergedStep)
+        → AreSeated C.represents book cells j → IsMerge j lines → AreCausal book.opening.name.chain j.members lines }
     ensures run { (book : Celled Mastered BookEvent) (cells : List (Celled C Event)) (j : Journals) (lines : List MergedStep)
         → AreSeated C.represents book cells j → IsMerge j lines → CanBeNumbered lines
         → IsRunOf book.opening.name.chain (run_of j.members lines) }

@@ -1,4 +1,4 @@
--- What each author may add, and what it has seen then.
+-- Entries that each author may add, and the history that it has then seen.
 use Rattle.std.proofs.Common.{◌≡◌, ◌≢◌, ℕ, ◌==◌, if◌then◌else◌, List, [], ◌∷◌, ◌++◌, Option, Some, None, Ok, refl, sym, ap, subst, ◌∙◌, inl, inr, append-nil, append_assoc, eq-eqb, ne_eqb}
 use mathlib.Core.List.{IsPrefix}
 use Rattle.std.specs.declared.snapshot.Snapshot.{Snapshot}
@@ -14,10 +14,10 @@ use Rattle.craq_seat.specs.declared.journal.BookEvent.{BookEvent}
 use Rattle.craq_seat.specs.declared.journal.Record.{Record}
 use Rattle.craq_seat.specs.Merge.{MergedStep, book_line, node_line, run_of}
 use Rattle.craq_causality.specs.Authors.{IsMasterAfter, IsNodeAfter}
-use Rattle.craq_causality.specs.Causal.{AreCausal, AreFew}
-use Rattle.craq_causality.proofs.Growing.{joined_later, master_follows, master_more, no_lines, node_follows, node_more, sent_later, stopped_later}
+use Rattle.craq_causality.specs.Causal.{AreCausal, AreFew, AreTyped}
+use Rattle.craq_causality.proofs.Growing.{joined_later, master_follows, master_more, no_lines, node_follows, node_more, sent_later, stopped_later, typed_more}
 use Rattle.craq_causality.proofs.Nodes.{same_or_not}
-use Rattle.craq_causality.proofs.Start.{is_run}
+use Rattle.craq_causality.proofs.Start.{is_typed_run}
 use Rattle.craq_ghost_history.specs.declared.author.Author.TheVariants.{Node, Client}
 use Rattle.craq_ghost_history.specs.Authors.{of}
 use Rattle.craq_ghost_history.specs.Histories.{IsAdded, MayAdd}
@@ -44,13 +44,13 @@ quiet c log e h k holds =
     rw (members_quiet c log e h, ls) holds
 
 -- the entry is a line of the chain
-line_holds : (c : ℕ) (log : List Entry) (e : Entry) (members : List ℕ) (l : MergedStep) → members_in c log ≡ Some members → opened_by c e ≡ None → line_in c e ≡ l ∷ [] → AreCausal c members (lines_in c log ++ l ∷ []) → ChainHolds c (members_in c (log ++ e ∷ [])) (lines_in c (log ++ e ∷ []))
-line_holds c log e members l opened h k a =
+line_holds : (c : ℕ) (log : List Entry) (e : Entry) (members : List ℕ) (l : MergedStep) → members_in c log ≡ Some members → opened_by c e ≡ None → line_in c e ≡ l ∷ [] → AreCausal c members (lines_in c log ++ l ∷ []) → AreTyped (lines_in c log ++ l ∷ []) → ChainHolds c (members_in c (log ++ e ∷ [])) (lines_in c (log ++ e ∷ []))
+line_holds c log e members l opened h k a typed =
     let ms : members_in c (log ++ e ∷ []) ≡ Some members = members_quiet c log e h ∙ opened in
     let ls : lines_in c (log ++ e ∷ []) ≡ lines_in c log ++ l ∷ [] = lines_more c log e ∙ ap (λ z. lines_in c log ++ z) k in
-    rw (ms, ls) a
+    rw (ms, ls) (a, typed)
 
-causal_in : (c : ℕ) (log : List Entry) (members : List ℕ) → members_in c log ≡ Some members → ChainHolds c (members_in c log) (lines_in c log) → AreCausal c members (lines_in c log)
+causal_in : (c : ℕ) (log : List Entry) (members : List ℕ) → members_in c log ≡ Some members → ChainHolds c (members_in c log) (lines_in c log) → AreCausal c members (lines_in c log) × AreTyped (lines_in c log)
 causal_in c log members opened h = rw opened at h
 
 -- ---- steps of nodes
@@ -67,12 +67,12 @@ node_here name seen reported log stamp event pass step call next m h kept heard 
     let e : Entry = AtNode name stamp event pass step call in
     let r : Record Event = node_record stamp event pass step in
     let opened : members_in c log ≡ Some m.at.members = members_prefix c seen log m.at.members kept m.at.opened in
+    let old = causal_in c log m.at.members opened (h.chains c) in
     line_holds c log e m.at.members (node_line name.node r) opened refl (rw (eq-eqb c c refl) refl)
-    (node_follows c m.at.members (lines_in c log) name.node m.node next m.stamp r
-    (causal_in c log m.at.members opened (h.chains c)) m.at.member
+    (node_follows c m.at.members (lines_in c log) name.node m.node next m.stamp r old.0 m.at.member
     (node_over name m.at.members seen log m.node m.stamp own m.at.after) m.step m.later
-    (joined_later m.at.members (lines_in c seen) (lines_in c log) name.node (lines_prefix c seen log kept) m.at.joined, sent_later (lines_in c reported) (lines_in c log) event.value (lines_prefix c reported log heard) m.sent)
-    m.typed)
+    (joined_later m.at.members (lines_in c seen) (lines_in c log) name.node (lines_prefix c seen log kept) m.at.joined, sent_later (lines_in c reported) (lines_in c log) event.value (lines_prefix c reported log heard) m.sent))
+    (typed_more (lines_in c log) (node_line name.node r) old.1 m.typed)
 
 pub node_may : (name : NodeName) (seen reported : List Entry) (stamp : ℕ) (event : Snapshot Event) (pass : ℕ) (step : Snapshot Step) (call : Option CallId) (next : Plain) → MayStep name seen reported (node_record stamp event pass step) call next → MayAdd author_of IsHistory seen reported (AtNode name stamp event pass step call)
 node_may name seen reported stamp event pass step call next m log h kept heard own =
@@ -115,11 +115,12 @@ master_here c seen reported log stamp event pass step next m h kept heard own =
     let e : Entry = AtMaster c stamp event pass step in
     let r : Record BookEvent = master_record stamp event pass step in
     let opened : members_in c log ≡ Some m.at.members = members_prefix c seen log m.at.members kept m.at.opened in
+    let old = causal_in c log m.at.members opened (h.chains c) in
     line_holds c log e m.at.members (book_line r) opened refl (rw (eq-eqb c c refl) refl)
-    (master_follows c m.at.members (lines_in c log) m.master next m.stamp r
-    (causal_in c log m.at.members opened (h.chains c))
+    (master_follows c m.at.members (lines_in c log) m.master next m.stamp r old.0
     (master_over c m.at.members seen log m.master m.stamp own m.at.after) m.step m.later
     (stopped_later (lines_in c reported) (lines_in c log) event (lines_prefix c reported log heard) m.stopped))
+    (typed_more (lines_in c log) (book_line r) old.1 tt)
 
 pub master_may : (chain : ℕ) (seen reported : List Entry) (stamp : ℕ) (event : BookEvent) (pass : ℕ) (step : Snapshot Step) (next : Mastered) → MayOrder chain seen reported (master_record stamp event pass step) next → MayAdd author_of IsHistory seen reported (AtMaster chain stamp event pass step)
 master_may chain seen reported stamp event pass step next m log h kept heard own =
@@ -158,7 +159,7 @@ opened_here c log members m h =
     let by : opened_by c e ≡ Some members.value = rw (eq-eqb c c refl) refl in
     let ms : members_in c (log ++ e ∷ []) ≡ Some members.value = members_more c log e ∙ rw (none, by) refl in
     let ls : lines_in c (log ++ e ∷ []) ≡ [] = lines_more c log e ∙ (append-nil (lines_in c log) ∙ none_holds c log none h) in
-    rw (ms, ls) (no_lines c members.value m.membership)
+    rw (ms, ls) (no_lines c members.value m.membership, tt)
 
 pub opened_may : (chain : ℕ) (seen reported : List Entry) (members : Snapshot (List ℕ)) → MayOpen chain seen members.value → MayAdd author_of IsHistory seen reported (Opened chain members)
 opened_may chain seen reported members m log h kept heard own =
@@ -185,4 +186,5 @@ called_may seen reported call name ask m log h kept heard own =
 -- ---- each chain is a run
 
 pub chain_is_a_run : (log : List Entry) (c : ℕ) (members : List ℕ) → IsHistory log → members_in c log ≡ Some members → AreFew (lines_in c log) → IsTypedRunOf c (run_of members (lines_in c log))
-chain_is_a_run log c members h opened few = is_run c members (lines_in c log) (causal_in c log members opened (h.chains c)) few
+chain_is_a_run log c members h opened few =
+    let a = causal_in c log members opened (h.chains c) in is_typed_run c members (lines_in c log) a.0 a.1 few

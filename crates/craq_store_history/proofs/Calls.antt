@@ -19,7 +19,7 @@ calls_more before [] e a may = (rw append-nil at may, tt)
 calls_more before (x ∷ log) e a may =
     (a.0, calls_more (before ++ x ∷ []) log e a.1 (subst (λ l. MayCall l e) (sym (append_assoc before (x ∷ []) log)) may))
 
--- what was called before was called before more
+-- a call that was made before a step was made before any longer history
 pub accepts_later : (xs ys : List Entry) (name : NodeName) (event : Event) (call : Option CallId) → IsPrefix xs ys → Accepts xs name event call → Accepts ys name event call
 accepts_later xs ys name event None p a = tt
 accepts_later xs ys name event (Some call) p (ask, is, (s, there, same_ask)) =

@@ -7,16 +7,17 @@ use Rattle.craq_model.specs.declared.ask.Ask.{Ask}
 use Rattle.craq_model.specs.declared.ask.Event.{Event}
 use Rattle.craq_model.specs.declared.ask.Event.TheVariants as events
 use Rattle.craq_seat.specs.Merge.{MergedStep}
-use Rattle.craq_causality.specs.Causal.{AreCausal}
+use Rattle.craq_causality.specs.Causal.{AreCausal, AreTyped}
 use Rattle.craq_store_history.specs.declared.entry.CallId.{CallId}
 use Rattle.craq_store_history.specs.declared.entry.Entry.{Entry}
 use Rattle.craq_store_history.specs.declared.entry.Entry.TheVariants.{Opened, Called, AtNode, AtMaster}
 use Rattle.craq_store_history.specs.Entries.{lines_in, members_in}
 
--- the lines of an opened chain are in causal order; a chain that is not opened has none
+-- the lines of an opened chain are in causal order, with each request of its type; a chain that is
+-- not opened has none
 abbrev pub ChainHolds : ℕ → Option (List ℕ) → List MergedStep → Type 0
 ChainHolds c None lines = lines ≡ []
-ChainHolds c (Some members) lines = AreCausal c members lines
+ChainHolds c (Some members) lines = AreCausal c members lines × AreTyped lines
 
 -- the client has made no call of this number or above
 abbrev pub IsBelow : CallId → Entry → Type 0
@@ -34,7 +35,7 @@ abbrev pub Accepts : List Entry → NodeName → Event → Option CallId → Typ
 Accepts before name event None = ⊤
 Accepts before name event (Some call) = (ask : Ask) × (event ≡ events.Ask ask) × WasCalled before call name ask
 
--- what an entry needs of those before it, for the calls
+-- an entry may follow those before it, as far as calls go
 abbrev pub MayCall : List Entry → Entry → Type 0
 MayCall before (Opened chain members) = ⊤
 MayCall before (Called call name ask) = AllByRecursion (IsBelow call) before

@@ -1,4 +1,4 @@
--- What an author has to know to add an entry to a store's history.
+-- Knowledge that an author needs to add an entry to a store's history.
 use Rattle.std.specs.Prelude.{◌≡◌, ◌≢◌, ◌<◌, ℕ, List, [], Option, Some, Ok}
 use Rattle.std.specs.List.{AllByRecursion}
 use Rattle.craq_names.specs.declared.name.NodeName.{NodeName}
@@ -20,7 +20,7 @@ use Rattle.craq_store_history.specs.declared.entry.Entry.{Entry}
 use Rattle.craq_store_history.specs.Entries.{author_of, lines_in, members_in}
 use Rattle.craq_store_history.specs.Chains.{Accepts, IsBelow}
 
--- what this node has seen: its chain was opened, the node has joined it, and its own steps replay to `node` and `stamp`
+-- this node has seen that its chain was opened and that it has joined it, and its own steps replay to `node` and `stamp`
 pub record IsNodeAt (name : NodeName) (seen : List Entry) (node : Plain) (stamp : ℕ) : Type 0 where
   pub members : List ℕ
   pub opened : members_in name.chain seen ≡ Some members
@@ -28,13 +28,14 @@ pub record IsNodeAt (name : NodeName) (seen : List Entry) (node : Plain) (stamp 
   pub joined : HasJoined members (lines_in name.chain seen) name.node
   pub after : IsNodeAfter name.chain members name.node (lines_in name.chain seen) node stamp
 
--- the same of the master of a chain
+-- the master of a chain has seen that its chain was opened, and its own steps replay to `master` and `stamp`
 pub record IsMasterAt (chain : ℕ) (seen : List Entry) (master : Mastered) (stamp : ℕ) : Type 0 where
   pub members : List ℕ
   pub opened : members_in chain seen ≡ Some members
   pub after : IsMasterAfter chain members (lines_in chain seen) master stamp
 
--- the node takes this step: the next of the node that its own steps lead to, of a message that was sent by what it was told, or of a call that was made
+-- the node takes this step: the next of the node that its own steps lead to, of a message that was sent by the prefix that it learned,
+-- or of a call that was made
 pub record MayStep (name : NodeName) (seen reported : List Entry) (r : Record Event) (call : Option CallId) (next : Plain) : Type 0 where
   pub node : Plain
   pub stamp : ℕ

@@ -1,4 +1,5 @@
-//! `Entry`: what happens in a store, as its history has it. It exists in the proofs alone, but for ids and numbers.
+//! `Entry`: an event of a store, as its history has it. It exists in the proofs alone, except ids
+//! and numbers.
 use craq_model::{Ask, Event, Step};
 use craq_names::{ChainId, Items, NodeId, NodeName, Pass, Stamp};
 use craq_seat::BookEvent;

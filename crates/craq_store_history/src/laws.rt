@@ -26,7 +26,8 @@ pub fn each_chain_is_a_run()
         → IsTypedRunOf chain (run_of members (lines_in chain log)) }
 {}
 
-/// Each author knows enough to add its entry, whatever the others have added. A history without entries keeps the rule.
+/// Each author knows enough to add its entry, whatever the others have added. A history without
+/// entries keeps the rule.
 pub fn authors_keep_the_rule()
     ensures empty { IsHistory [] }
     ensures opened { (chain : ℕ) (seen reported : List Entry) (members : Snapshot (List ℕ)) → MayOpen chain seen members.value
@@ -47,8 +48,8 @@ pub fn authors_are_replayed()
         → MayOrder chain seen reported (master_record stamp event pass step) next → IsAdded author_of seen reported (AtMaster chain stamp event pass step) new → IsMasterAt chain new next stamp }
 {}
 
-/// A step that accepts a call stands after the call, asks what the call asks of this node, and stands after all that the
-/// client had seen before it.
+/// A step that accepts a call stands after the call, asks what the call asks of this node, and
+/// stands after all that the client had seen before it.
 pub fn accepted_calls_follow()
     ensures made { (log done rest : List Entry) (name : NodeName) (stamp : ℕ) (event : Snapshot Event) (pass : ℕ) (step : Snapshot Step) (call : CallId)
         → IsHistory log → log ≡ done ++ AtNode name stamp event pass step (Some call) ∷ rest → Accepts done name event.value (Some call) }

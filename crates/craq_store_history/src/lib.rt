@@ -1,5 +1,5 @@
-//! The history of a store: its entries, its rule, and that each chain's lines in it are a run; the running store adds
-//! what it does to it. Laws, and types that exist in the proofs alone.
+//! The history of a store: its entries, its rule, and that each chain's lines in it are a run; the
+//! running store adds what it does to it. Laws, and types that exist in the proofs alone.
 #![tactic(auto)]
 
 mod entry;

@@ -1,4 +1,4 @@
--- What travels between the parts of a store: bytes of messages that were sent, and calls that were made.
+-- Values on their way between the parts of a store: bytes of messages that were sent, and calls that were made.
 use Rattle.std.specs.Prelude.{◌≡◌, ℕ, List, []}
 use Rattle.std.specs.declared.snapshot.Snapshot.{Snapshot}
 use Rattle.craq_names.specs.declared.name.NodeName.{NodeName}
@@ -14,13 +14,13 @@ use Rattle.craq_store_history.specs.declared.entry.Entry.TheVariants.{Called}
 use Rattle.craq_store_history.specs.Entries.{author_of, lines_in}
 use Rattle.craq_store_history.specs.Steps.{MayMake}
 
--- in this history a node of the chain, or its master, sent a message that these bytes spell
+-- in this history a node of the chain, or its master, sent a message that these bytes encode
 pub record IsSentAs (chain : ℕ) (bytes : List ℕ) (log : List Entry) : Type 0 where
   pub message : LinkMessage
   pub spelled : Encodes message bytes
   pub sent : WasSent (lines_in chain log) message
 
--- what a contract sees of bytes on their way
+-- the view that contracts have of bytes on their way
 pub record Wired : Type 0 where
   pub chain : ℕ
   pub bytes : List ℕ
@@ -30,7 +30,7 @@ pub record IsSession (client next : ℕ) (writer : Written Entry) : Type 0 where
   pub author : writer.author ≡ Client client
   pub fresh : MayMake writer.seen (record { client = client; number = next })
 
--- what a contract sees of a session: its number, that of its next call, and the history that it has seen
+-- the view that contracts have of a session: its number, that of its next call, and the history that it has seen
 pub record Calling : Type 0 where
   pub client : ℕ
   pub next : ℕ

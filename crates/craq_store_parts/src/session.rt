@@ -47,8 +47,8 @@ impl<N: Named> Session<N> {
         }
     }
 
-    /// Makes a call: adds it to the history, after all that the session has seen. None, with nothing changed: there is no next
-    /// number.
+    /// Makes a call: adds it to the history, after all that the session has seen. None, with
+    /// nothing changed: there is no next number.
     pub fn call(
         &mut self,
         history: &History<Entry, StoreRule, N>,

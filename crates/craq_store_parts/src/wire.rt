@@ -14,7 +14,8 @@ use craq_wire::decode;
 use std::alloc::Global;
 use std::marker::Model;
 
-/// The bytes of a message on their way: in the token's history a node of the chain, or its master, sent the message.
+/// The bytes of a message on their way: in the token's history a node of the chain, or its master,
+/// sent the message.
 #[derive(Drop)]
 pub struct Wire<N: Named> {
     chain: ChainId,
@@ -33,7 +34,7 @@ impl<N: Named> Model for Wire<N> {
 }
 
 impl<N: Named> Wire<N> {
-    /// Puts bytes on their way that spell a message which was sent in the token's history.
+    /// Puts bytes on their way that encode a message which was sent in the token's history.
     pub fn new(chain: ChainId, bytes: Bytes, token: Token<Entry, StoreRule, N>) -> Self
         requires { IsSentAs chain bytes token }
         ensures chain { result.chain ≡ chain }
@@ -46,8 +47,8 @@ impl<N: Named> Wire<N> {
         }
     }
 
-    /// Reads the message, which was sent in the returned token's history. The one refusal is `Memory`, since the bytes
-    /// spell a message.
+    /// Reads the message, which was sent in the returned token's history. The one refusal is
+    /// `Memory`, since the bytes encode a message.
     pub fn read(self, alloc: Global) -> Result<(LinkMessage, Token<Entry, StoreRule, N>), Refusal>
         ensures sent { IfOk result (λ r. WasSent (lines_in self.chain r.1) r.0) }
         ensures spelled { IfOk result (λ r. Encodes r.0 self.bytes) }

@@ -1,4 +1,4 @@
-use Rattle.craq_causality.proofs.Growing.{follows_later, master_follows, no_lines, node_follows}
+use Rattle.craq_causality.proofs.Growing.{follows_later, master_follows, no_lines, node_follows, typed_more}
 use Rattle.craq_causality.proofs.causal_lines_grow.Goals as goal
 
 pub returns-clause-none : goal.returns-clause-none
@@ -12,3 +12,6 @@ returns-clause-master c = master_follows
 
 pub returns-clause-later : goal.returns-clause-later
 returns-clause-later c = follows_later
+
+pub returns-clause-typed : goal.returns-clause-typed
+returns-clause-typed c = typed_more

@@ -1,6 +1,6 @@
 use Rattle.craq_seat.specs.Stamps.{book_stamp, event_stamp}
+use Rattle.craq_causality.proofs.Orders.{from_contains}
 use Rattle.craq_merge.proofs.Good.{records_above, records_above_pass}
-use Rattle.craq_merge.proofs.Orders.{from_contains}
 use Rattle.craq_merge.proofs.stamps_exceed_causes.Goals as goal
 
 pub returns-clause-nodes : goal.returns-clause-nodes

@@ -1,5 +1,5 @@
 use Rattle.std.proofs.Common.{◌≡◌, ap, arith, drop, length, []}
-use Rattle.craq_merge.proofs.Numbers.{all_sent}
+use Rattle.craq_causality.proofs.Numbers.{all_sent}
 use Rattle.craq_audit.proofs.Counted.{past_end}
 use Rattle.craq_audit.proofs.numbers.sums_of.Goals as goal
 

@@ -1,6 +1,6 @@
 use Rattle.std.proofs.Common.{◌≡◌, ◌≤◌, ◌+◌, ◌++◌, drop, length}
 use Rattle.craq_names.specs.Limits.{greatest}
-use Rattle.craq_merge.proofs.Numbers.{all_sent}
+use Rattle.craq_causality.proofs.Numbers.{all_sent}
 use Rattle.craq_audit.specs.Lines.{sums_from}
 use Rattle.craq_audit.proofs.numbers.sums_of.Given as goal
 

@@ -1,4 +1,4 @@
--- A dialogue whose host is asked, one that takes steps, one step on, and the turns of connections.
+-- Steps of a connection state: a request to its backend, a step, one step on, and the rounds of connections.
 use Rattle.std.proofs.Common.{◌≡◌, ◌+◌, ℕ, Bool, false, List, Some, None, Result, Ok, Err, inl, inr, sym, refl, subst}
 use Rattle.slab.specs.Slab.{Slab, get, with_value}
 use Rattle.slab.proofs.SlabLemmas.{Updates-with_value}
@@ -21,14 +21,14 @@ use Rattle.craq_event_loop.specs.Belonging.{CameBack, KeepsSlot}
 use Rattle.craq_event_loop.proofs.Completions.{receipt_refusable, refusal_refusable}
 
 module _ (refuses : Refusing) (submits : Submitting) where
-  -- nothing came at once: a letter will come, or no call was under way
+  -- nothing came at once: a completion will come, or no call was under way
   pub nothing_came : (phase : Phase) (old new : ConnectionState) → IsAsked refuses submits phase None → new ≡ old → AsksBackend refuses submits phase old new
   nothing_came phases.Idle old new is same = same
   nothing_came (phases.Asks m) old new is same = same
   nothing_came (phases.Waits q) old new is same = inl (is.0, is.1, same)
   nothing_came (phases.Over why) old new is same = same
 
-  -- what comes at once may be refused as it came
+  -- an outcome that comes at once and may be a refusal at once may be a refusal of the call
   refusable : (q : CallRequest) (outcome : Result Called Refusal) → IsRefusedAtOnce refuses q (Some outcome) → IsRefusable refuses q outcome
   refusable q (Ok c) may = receipt_refusable refuses q c may
   refusable q (Err e) may = refusal_refusable refuses q e may
@@ -71,7 +71,7 @@ module _ (most : ℕ) (tells : List ℕ → Type 0) (refuses : Refusing) (submit
   stayed over count mid new after is taken took = round_of over new after is (rests count mid steps.Stays taken tt took)
 
 module _ {S : Type 0} (most : ℕ) (tells : List ℕ → Type 0) (refuses : Refusing) where
-  -- what a connection became is what is under its key
+  -- a connection has had its round in its slab, if its new value is stored under its key
   pub turned_at : (submits : Token → Submitting) (s : Slab (Connection S)) (key : ℕ) (c d : Connection S)
       → get s key ≡ Some c → HasRound most tells refuses (under_key submits key) c.over c.state c.calls d.state d.calls → d.stream ≡ c.stream → d.over ≡ c.over → d.busy ≡ c.busy → KeepsSlot c d → d.readiness ≡ c.readiness
       → HasRoundAt most tells refuses submits s (with_value s key d) key

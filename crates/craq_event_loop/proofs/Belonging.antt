@@ -1,4 +1,4 @@
--- What belongs to a connection, where nothing was read or written, and in a slab; and what happens under one key after another.
+-- Laws of the bytes of a connection: where nothing was read or written, in a slab, and after events under one key after another.
 use Rattle.std.proofs.Common.{◌≡◌, ◌≢◌, ◌≤◌, ◌<◌, ℕ, zero, suc, ◌+◌, length, take, get_or, arith, length-append, true, List, [], ◌∷◌, ◌++◌, Option, Some, None, Result, inl, inr, sym, refl, subst, ◌∙◌}
 use Rattle.std.specs.Io.KnownBytes.{Appends, Consumes}
 use Rattle.std.proofs.lemmas.List.{append-nil, append_assoc, take_more}
@@ -73,11 +73,11 @@ module _ {S : Type 0} (now : ℕ) (old new : Connection S) where
       → Gives (take count bytes) old.state new.state → GivesNow now old new
   gave_now count bytes some few at gives = inr (at, take count bytes, some_taken count bytes some few, gives)
 
--- what a connection takes is taken, whether it has something to do or not
+-- a connection that takes a completion takes it, also if it is then marked as having something to do
 taken_busy : {S : Type 0} (number : ℕ) (reply : Result Called Refusal) (c d : Connection S) → TakesCompletion number reply c d → TakesCompletion number reply c (record d { busy = true })
 taken_busy number reply c d takes = record { own = takes.own; another = takes.another; calls = takes.calls; stream = takes.stream; over = takes.over; readiness = takes.readiness; slot = takes.slot }
 
--- the connection under the token's key takes the letter, and then has something to do
+-- the connection under the token's key takes the completion, and then has something to do
 pub delivered : {S : Type 0} (s t : Slab (Connection S)) (token : Token) (c d : Connection S) (reply : Result Called Refusal)
     → get s token.connection ≡ Some c → TakesCompletion token.call reply c d → Wakes (with_value s token.connection d) t token.connection → Delivers s t token reply
 delivered s t token c d reply was takes wakes c' here =
@@ -86,7 +86,7 @@ delivered s t token c d reply was takes wakes c' here =
     rw e (record d { busy = true }, wakes d is, taken_busy token.call reply c d takes)
 
 module _ {S : Type 0} where
-  -- of all letters these are left, and those behind them are delivered
+  -- these completions are left, and those behind them are delivered
   abbrev pub AreLeft : List Completion → List Completion → Slab (Connection S) → Slab (Connection S) → Type 0
   AreLeft all left old new = (done : List Completion) × (all ≡ left ++ done) × DeliversAll done old new
 
@@ -107,7 +107,7 @@ module _ {S : Type 0} where
       (sym (before.1 ∙ subst (λ (x : List Completion). left ++ before.0 ≡ x ++ before.0) none refl))
       before.2
 
--- as many letters as there were, one by one
+-- as many completions as there were, one by one
 pub one_shorter : (left rest : List Completion) (completion : Completion) (index all : ℕ) → left ≡ rest ++ completion ∷ [] → length left + index ≡ all → length rest + (index + 1) ≡ all
 one_shorter left rest completion index all last long =
     let is : length (rest ++ completion ∷ []) + index ≡ all = subst (λ (x : List Completion). length x + index ≡ all) last long in
@@ -117,7 +117,7 @@ pub none_long : (left : List Completion) (index all : ℕ) → length left + ind
 none_long [] index all long reached = refl
 none_long (completion ∷ rest) index all long reached = absurd (omega (arith, long, reached))
 
--- the last letter that was left, behind those that are left now
+-- the last completion that was left, behind those that are left now
 pub last_left : (left popped rest : List Completion) (completion : Completion) → left ≡ popped ++ completion ∷ [] → rest ≡ popped → left ≡ rest ++ completion ∷ []
 last_left left popped rest completion is same = is ∙ subst (λ (x : List Completion). popped ++ completion ∷ [] ≡ x ++ completion ∷ []) (sym same) refl
 

@@ -102,13 +102,13 @@ none_long (x ∷ xs) short = absurd (omega (arith, short))
 no_items : (keys : Vec ℕ Global) → vec_len keys ≡ 0 → keys.items ≡ []
 no_items keys none = none_long keys.items (let long : keys.len ≡ length keys.items = keys.ok.0 in omega (arith, long, none))
 
--- what is found at a place whatever is found past the end
+-- an index within the list finds the same key, whatever the default past its end
 found_at : (keys : List ℕ) (index key other : ℕ) → index < length keys → get_or keys index key ≡ key → get_or keys index other ≡ key
 found_at [] index key other within is = absurd (omega (arith, within))
 found_at (one ∷ keys) zero key other within is = is
 found_at (one ∷ keys) (suc index) key other within is = found_at keys index key other (omega (arith, within)) is
 
--- what stands before a place of a list that names each once is not what stands there
+-- a key before an index of a list that names each once differs from the key at the index
 before_it : (keys : List ℕ) (index key : ℕ) → AllPairs (λ x y. x ≢ y) keys → index < length keys → Contains (take index keys) key → key ≢ get_or keys index 0
 before_it keys index key once within listed same =
     let before : listed.0 < index = omega (arith, listed.1, length-take index keys) in
@@ -119,7 +119,7 @@ module _ {S : Type 0} where
   abbrev pub MarksStay : Slab (Connection S) → Slab (Connection S) → Type 0
   MarksStay s t = (key : ℕ) → (is_marked (get t key) ≡ is_marked (get s key)) × (is_some (get t key) ≡ is_some (get s key))
 
-  -- what happens under one key leaves the marks
+  -- each event under one key leaves the marks
   abbrev pub KeepsMarks : (Slab (Connection S) → Slab (Connection S) → ℕ → Type 0) → Type 0
   KeepsMarks happens =
       (s t : Slab (Connection S)) (key : ℕ) → happens s t key
@@ -226,7 +226,7 @@ module _ {S : Type 0} where
         room_later = omega (arith, l.room_later, less);
       }
 
-  -- what changed under a key is marked there
+  -- a slab of marked connections behind stays one after an event, if a connection that changed is marked
   pub behind_still : (s t : Slab (Connection S)) (key : ℕ) → MarksBehind s → OthersStay s t key → ((c : Connection S) → get t key ≡ Some c → c.busy ≡ true) → MarksBehind t
   behind_still s t key marks others on other c here is =
       elim (cases_eq other key) [
@@ -280,7 +280,7 @@ module _ {S : Type 0} where
           | inr differs ↦ sym (ap is_some (h.1.2 key differs)) ∙ mid
         ]
 
-    -- what the filter keeps of the list is the list of those that are marked now
+    -- the keys that the filter keeps of the busy list are those of the connections that are marked now
     pub listed_after : (s t : Slab (Connection S)) (busy later kept empty : Vec ℕ Global) → ListsMarked s busy later → OneByOne happens busy.items s t
         → kept.items ≡ filter (λ key. is_marked (get t key)) busy.items → empty.items ≡ [] → vec_capacity later ≤ vec_capacity kept → vec_capacity busy ≤ vec_capacity empty
         → ListsMarked t kept empty

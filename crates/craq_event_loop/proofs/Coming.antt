@@ -30,7 +30,7 @@ module _ {S : Type 0} where
       listed_still s t busy later
       (marks_alone s t key (λ c here. (record c { readiness = noticed c.readiness event }, reported c here, refl)) vacant others) l
 
-  -- a connection of which an event told is woken
+  -- an event wakes its connection
   pub reported_and_woken : (s t u : Slab (Connection S)) (key : ℕ) (event : Event) → key ≡ key_of event → NoticesAt event s t key → StaysVacant s t key
       → OthersStay s t key → Wakes t u key → StaysVacant t u key → OthersStay t u key → TellsOf event s u
   reported_and_woken s t u key event is reported vacant others wakes vacant_too others_too = record {

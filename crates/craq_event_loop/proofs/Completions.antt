@@ -1,4 +1,4 @@
--- With what a call may be refused that was asked and came back.
+-- Refusals of a call that was asked and came back.
 use Rattle.std.proofs.Common.{Result, Ok, Err, inl, inr, sym, subst}
 use Rattle.craq_names.specs.declared.refusal.Refusal.{Refusal}
 use Rattle.craq_pending_calls.specs.Refused.{CanRefuse}
@@ -23,7 +23,7 @@ receipt_refusable refuses q c may e h = answer_refusable refuses q e may h.0
 pub refusal_refusable : (refuses : Refusing) (q : CallRequest) (came : Refusal) → refuses q.node q.pass q.ask came → IsRefusable refuses q (Err came)
 refusal_refusable refuses q came may e is = subst (λ (x : Refusal). refuses q.node q.pass q.ask x) (sym is) may
 
--- a letter that came
+-- a completion that came
 pub completion_refusable : (refuses : Refusing) (q : CallRequest) (reply outcome : Result Called Refusal) → MayHaveAny refuses q → IsOutcome (Waits q) reply outcome → IsRefusable refuses q outcome
 completion_refusable refuses q (Ok c) outcome may is = subst (λ (x : Result Called Refusal). IsRefusable refuses q x) (sym is) (receipt_refusable refuses q c may)
 completion_refusable refuses q (Err came) outcome may h =

@@ -11,7 +11,7 @@ module _ {S : Type 0} (is_over : S → Type 0) (old new : Connection S) where
   pub ended : is_over new.stream → EndsAsSocket is_over old new
   ended is = λ over. inr is
 
--- what is not so is false
+-- a flag whose negation is false is true
 off_if : (reported : Bool) → not reported ≡ false → reported ≡ true
 off_if true is = refl
 off_if false is = cc

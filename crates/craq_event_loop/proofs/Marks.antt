@@ -80,7 +80,7 @@ module _ {S : Type 0} where
   kept_or_not keys kept more index key s t false once within at is others tells now =
       subst (λ (x : List ℕ). x ≡ filter (λ k. is_marked (get t k)) (take (index + 1) keys)) (sym now) (one_left_out keys kept index key s t once within at is others (sym tells))
 
-  -- what is kept, so far, of the busy list: the keys of those that are marked now, and there is room for them
+  -- the keys kept of the busy list so far are those of marked connections, and there is room for them
   pub record KeptSoFar (s t : Slab (Connection S)) (busy later kept : Vec ℕ Global) (keys : List ℕ) (index : ℕ) : Type 0 where
     pub are : kept.items ≡ filter (λ key. is_marked (get t key)) (take index keys)
     pub grows : vec_capacity later ≤ vec_capacity kept
@@ -174,7 +174,7 @@ module _ {S : Type 0} (remaining contents : S → Option (List ℕ)) (is_over is
   pub marks_behind : (t : Slab (Connection S)) → ((key : ℕ) → IsRightAt t key) → MarksBehind t
   marks_behind t right key c here is = (right key c here).1 is
 
-  -- the same where the busy list and the other one were handed on
+  -- lists of marked connections stay so after reads and rounds that return both lists unchanged
   pub listed_handed : (s r a : Slab (Connection S)) (busy later busy_read later_read busy_stepped later_stepped : Vec ℕ Global) → ListsMarked s busy later
       → OneByOne (ReadsAt remaining contents is_over is_dry is_full) busy.items s r → busy_read ≡ busy → later_read ≡ later
       → TakeRounds tells refuses submits busy_read.items r a → busy_stepped ≡ busy_read → later_stepped ≡ later_read → ListsMarked a busy_stepped later_stepped

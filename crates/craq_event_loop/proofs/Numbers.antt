@@ -42,7 +42,7 @@ module _ (x : ℕ) (below : x < 2 ^ 64) where
       (subst (λ (y : ℕ). x ≢ y) (sym next) (apart (2 ^ 64) x (j + 1) below (omega arith) (omega (arith, few))))
       (all_apart (next_call z) (j + 1) count next (omega (arith, few)))
 
--- no two of so many calls in a row have one number
+-- no two of `count` calls in a row have one number
 pub none_twice : (before count : ℕ) → count ≤ 2 ^ 64 → AllPairs (λ x y. x ≢ y) (numbers_after before count)
 none_twice before zero few = λ i j d earlier there. absurd (omega (arith, there))
 none_twice before (suc count) few =

@@ -1,4 +1,4 @@
--- Where no frame is left in what was read, none is after a step or an outcome.
+-- If the bytes that were read have no whole frame left, they have none after a step or an outcome.
 use Rattle.std.proofs.Common.{◌≡◌, ℕ, Bool, true, false, List, Vec, inl, inr, refl, sym, subst}
 use Rattle.std.proofs.Math.Logic.{∥∥₁_map}
 use Rattle.std.specs.declared.alloc.Global.{Global}

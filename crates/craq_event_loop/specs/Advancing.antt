@@ -1,4 +1,4 @@
--- What taking the steps of a connection's dialogue comes to, and under which key and number its calls are asked.
+-- The steps that a connection state takes, and the key and the numbers under which its calls are submitted.
 use Rattle.std.specs.Prelude.{◌≡◌, ◌⊎◌, ◌+◌, ◌%◌, ◌^◌, ⊤, ℕ, zero, suc, length, Bool, true, false, List, [], ◌∷◌, ◌++◌, None, Some, Result}
 use Rattle.slab.specs.Slab.{Slab, get}
 use Rattle.craq_names.specs.declared.refusal.Refusal.{Refusal}
@@ -21,18 +21,18 @@ use Rattle.craq_event_loop.specs.Belonging.{CameBack, KeepsSlot, OneByOne}
 abbrev pub next_call : ℕ → ℕ
 next_call number = (number + 1) % 2 ^ 64
 
--- the numbers of so many calls after that of this number, in order
+-- the numbers of the next `count` calls after that of this number, in order
 abbrev pub numbers_after : ℕ → ℕ → List ℕ
 numbers_after number zero = []
 numbers_after number (suc count) = next_call number ∷ numbers_after (next_call number) count
 
--- what was asked under the key of a connection, by the number of its call
+-- a submission under the key of a connection, by the number of its call
 abbrev pub under_key : (Token → Submitting) → ℕ → ℕ → Submitting
 under_key submits key number = submits (record { connection = key; call = number })
 
--- the host was asked the call that is under way. Nothing came at once: it still is under way, and may be refused with whatever a
--- letter can refuse it with; or this came at once: the call came back so, and is refused only as it may be. Where none was under
--- way nothing happened
+-- the backend got the call that is under way. Nothing came at once: it still is under way, and may have any refusal that a completion
+-- can bring; or this outcome came at once: the call came back so, and is refused only as it may be. Where none was under way nothing
+-- happened
 abbrev pub AsksBackend : Refusing → Submitting → Phase → ConnectionState → ConnectionState → Type 0
 AsksBackend refuses submits (phases.Waits q) old new =
     (submits q None × MayHaveAny refuses q × (new ≡ old))
@@ -44,9 +44,9 @@ abbrev pub IsNoCall : Stepped → Type 0
 IsNoCall (steps.Calls unsent) = ⊥
 IsNoCall stepped = ⊤
 
--- the dialogue took so many steps, its host was asked each call as soon as a step made it, under the number after that of the call
--- asked before, and else nothing happened to it. `before` is the number of the call asked last before these steps, the last number
--- that of the call asked last after them
+-- the connection state took `count` steps. Its backend got each call as soon as a step made it, under the number after that of the
+-- call before; nothing else happened to the state. `before` is the number of the last call before these steps, and the last number
+-- is that of the last call after them
 pub data TakesSteps (tells : List ℕ → Type 0) (refuses : Refusing) (submits : ℕ → Submitting) (old : ConnectionState) (before : ℕ) : ℕ → ConnectionState → ℕ → Type 0 where
   none : TakesSteps tells refuses submits old before 0 old before
   step : (count : ℕ) (mid new : ConnectionState) (number : ℕ) (stepped : Stepped) → TakesSteps tells refuses submits old before count mid number
@@ -74,26 +74,26 @@ IsLast steps.Starved = ⊤
 IsLast steps.Stays = ⊤
 IsLast stepped = ⊥
 
--- the dialogue had its turn: it took steps until one found nothing more to do, or as many as are taken at most; before and after it
+-- the connection state had its round: it took steps until one found nothing more to do, or the most that it may take; before and after it
 -- the call asked last had these numbers
 pub data TakesRound (most : ℕ) (tells : List ℕ → Type 0) (refuses : Refusing) (submits : ℕ → Submitting) (old : ConnectionState) (before : ℕ) (new : ConnectionState) (after : ℕ) : Type 0 where
   rests : (count : ℕ) (mid : ConnectionState) (stepped : Stepped) → TakesSteps tells refuses submits old before count mid after
       → IsLast stepped → Took tells mid.phase stepped new.phase mid.codec new.codec mid.calls new.calls → TakesRound most tells refuses submits old before new after
   gives_way : TakesSteps tells refuses submits old before most new after → TakesRound most tells refuses submits old before new after
 
--- the turn of a connection: where it is over it asks nothing, and its dialogue is as it was
+-- the round of a connection: where it is over it asks nothing, and its connection state is unchanged
 abbrev pub HasRound : ℕ → (List ℕ → Type 0) → Refusing → (ℕ → Submitting) → Bool → ConnectionState → ℕ → ConnectionState → ℕ → Type 0
 HasRound most tells refuses submits true old before new after = (new ≡ old) × (after ≡ before)
 HasRound most tells refuses submits false old before new after = TakesRound most tells refuses submits old before new after
 
--- under this key, the connection had its turn, in which its host was asked each call under this key and the number after that of
--- the call before; its socket, its mark, its place and what is known of its readiness are as they were, and so is whether it is over
+-- under this key, the connection had its round: its backend got each call under this key and the number after that of the call before.
+-- Its socket, its mark, its slot and its readiness are unchanged, and so is whether it is over
 abbrev pub HasRoundAt : {S : Type 0} → ℕ → (List ℕ → Type 0) → Refusing → (Token → Submitting) → Slab (Connection S) → Slab (Connection S) → ℕ → Type 0
 HasRoundAt {S} most tells refuses submits old new key =
     (c : Connection S) → get old key ≡ Some c
     → (d : Connection S) × (get new key ≡ Some d) × HasRound most tells refuses (under_key submits key) c.over c.state c.calls d.state d.calls × (d.stream ≡ c.stream) × (d.over ≡ c.over) × (d.busy ≡ c.busy) × KeepsSlot c d × (d.readiness ≡ c.readiness)
 
--- the connections under these keys have their turns, one after another, in which the host is asked under their own keys; and
+-- the connections under these keys have their rounds, one after another, in which the backend gets calls under their own keys; and
 -- no other connection changes
 abbrev pub TakeRounds : {S : Type 0} → (List ℕ → Type 0) → Refusing → (Token → Submitting) → List ℕ → Slab (Connection S) → Slab (Connection S) → Type 0
 TakeRounds tells refuses submits keys old new = OneByOne (λ mid next key. HasRoundAt most_steps tells refuses submits mid next key) keys old new

@@ -1,4 +1,4 @@
--- Which bytes and which letters belong to which connection.
+-- Bytes and completions of each connection.
 use Rattle.std.specs.Prelude.{◌≡◌, ◌≢◌, ◌⊎◌, ℕ, true, false, List, [], ◌∷◌, ◌++◌, Option, None, Some, Result}
 use Rattle.std.specs.Io.KnownBytes.{Appends, Consumes}
 use Rattle.slab.specs.Slab.{Slab, get}
@@ -13,7 +13,7 @@ use Rattle.craq_session.specs.declared.connection_state.Phase.TheVariants as pha
 use Rattle.craq_event_loop.specs.declared.connection.Connection.{Connection}
 use Rattle.craq_event_loop.specs.Completions.{IsOutcome}
 
--- the connection is new: nothing came and nothing is due, no call was asked, and its socket is taken for ready
+-- the connection is new: no byte came and none is unsent, no call was asked, and its socket counts as ready
 pub record IsNew {S : Type 0} (c : Connection S) : Type 0 where
   pub nothing_came : Holds c.state.phase c.state.codec [] [] []
   pub idle : c.state.phase ≡ phases.Idle
@@ -30,24 +30,24 @@ pub record CameAs {S : Type 0} (stream : S) (slot receipts : ℕ) (c : Connectio
   pub same_place : c.slot ≡ slot
   pub same_receipts : c.receipts ≡ receipts
 
--- just these bytes came to the dialogue, behind those before; what is due and its calls are as they were
+-- just these bytes came to the connection state, behind those before; its unsent bytes and its calls are unchanged
 pub record Hears (came : List ℕ) (old new : ConnectionState) : Type 0 where
   pub heard : (read written : List ℕ) (rounds : History) → Holds old.phase old.codec read written rounds → Holds new.phase new.codec (read ++ came) written rounds
   pub unsent : new.codec.buffers.output.items ≡ old.codec.buffers.output.items
   pub calls : new.calls ≡ old.calls
 
--- just these bytes, the first that were due, are written as far as the dialogue knows; its phase and its calls are as they were
+-- just these bytes, the first that were unsent, are written as far as the connection state knows; its phase and calls are unchanged
 pub record Gives (went : List ℕ) (old new : ConnectionState) : Type 0 where
   pub given : (read written : List ℕ) (rounds : History) → Holds old.phase old.codec read written rounds → Holds new.phase new.codec read (written ++ went) rounds
   pub unsent : old.codec.buffers.output.items ≡ went ++ new.codec.buffers.output.items
   pub phase : new.phase ≡ old.phase
   pub calls : new.calls ≡ old.calls
 
--- what a socket gave, in order and whole, is what the dialogue was given
+-- the connection state got the bytes that a socket gave, in order and whole
 abbrev pub Reads : Option (List ℕ) → Option (List ℕ) → ConnectionState → ConnectionState → Type 0
 Reads before after old new = (came : List ℕ) × Consumes before after came × Hears came old new
 
--- what a socket took, in order and whole, is what was due and what the dialogue was told is written
+-- a socket took the bytes that were unsent, in order and whole, and the connection state notes them as written
 abbrev pub Writes : Option (List ℕ) → Option (List ℕ) → ConnectionState → ConnectionState → Type 0
 Writes before after old new = (went : List ℕ) × Appends before after went × Gives went old new
 
@@ -63,11 +63,11 @@ GivesNow now old new =
     ((new.heard ≡ old.heard) × (new.state ≡ old.state))
     ⊎ ((new.heard ≡ now) × (went : List ℕ) × (went ≢ []) × Gives went old.state new.state)
 
--- the call of the dialogue came back so
+-- the call of the connection state came back so
 abbrev pub CameBack : Result Called Refusal → ConnectionState → ConnectionState → Type 0
 CameBack outcome old new = AnswersCall old.phase outcome new.phase old.codec new.codec old.calls new.calls
 
--- the call of the dialogue came back by a letter that says this
+-- the call of the connection state came back by a completion that says this
 abbrev pub CameByCompletion : Result Called Refusal → ConnectionState → ConnectionState → Type 0
 CameByCompletion reply old new = (outcome : Result Called Refusal) × IsOutcome old.phase reply outcome × CameBack outcome old new
 
@@ -75,8 +75,8 @@ CameByCompletion reply old new = (outcome : Result Called Refusal) × IsOutcome 
 abbrev pub KeepsSlot : {S : Type 0} → Connection S → Connection S → Type 0
 KeepsSlot old new = (new.slot ≡ old.slot) × (new.receipts ≡ old.receipts)
 
--- a letter under this number says this: where it is the number of the call that the connection asked last, the dialogue is told
--- that its call came back so; under another number the letter tells it nothing
+-- a completion under this number says this: under the number of the connection's last call, the connection state gets the outcome of
+-- its call; under another number nothing changes
 pub record TakesCompletion {S : Type 0} (number : ℕ) (reply : Result Called Refusal) (old new : Connection S) : Type 0 where
   pub own : number ≡ old.calls → CameByCompletion reply old.state new.state
   pub another : number ≢ old.calls → new.state ≡ old.state
@@ -86,7 +86,7 @@ pub record TakesCompletion {S : Type 0} (number : ℕ) (reply : Result Called Re
   pub readiness : new.readiness ≡ old.readiness
   pub slot : KeepsSlot old new
 
--- the connection whose key is in this token takes the letter under the number that is there
+-- the connection whose key is in this token takes the completion under the number that is there
 abbrev pub Delivers : {S : Type 0} → Slab (Connection S) → Slab (Connection S) → Token → Result Called Refusal → Type 0
 Delivers {S} old new token reply =
     (c : Connection S) → get old token.connection ≡ Some c
@@ -113,15 +113,15 @@ abbrev pub OneByOne : {S : Type 0} → (Slab (Connection S) → Slab (Connection
 OneByOne happens [] old new = new ≡ old
 OneByOne {S} happens (key ∷ keys) old new = (mid : Slab (Connection S)) × Alone happens old mid key × OneByOne happens keys mid new
 
--- the letter is delivered to the connection whose key is in its token, and no connection under another key changes
+-- the completion is delivered to the connection whose key is in its token, and no connection under another key changes
 abbrev pub DeliversCompletion : {S : Type 0} → Completion → Slab (Connection S) → Slab (Connection S) → Type 0
 DeliversCompletion completion old new = Delivers old new completion.token completion.reply × StaysVacant old new completion.token.connection × OthersStay old new completion.token.connection
 
--- each of these letters is delivered, the last one first
+-- each of these completions is delivered, the last one first
 abbrev pub DeliversAll : {S : Type 0} → List Completion → Slab (Connection S) → Slab (Connection S) → Type 0
 DeliversAll [] old new = new ≡ old
 DeliversAll {S} (completion ∷ later) old new = (mid : Slab (Connection S)) × DeliversAll later old mid × DeliversCompletion completion mid new
 
--- the host brought letters, and each of them is delivered
+-- the backend brought completions, and each of them is delivered
 abbrev pub DeliversBrought : {S : Type 0} → (List Completion → Type 0) → Slab (Connection S) → Slab (Connection S) → Type 0
 DeliversBrought brings old new = (completions : List Completion) × brings completions × DeliversAll completions old new

@@ -1,4 +1,4 @@
--- Which connections have something to do, which are marked for it, and which the list of a thread names.
+-- Connections that have something to do, those that are marked for it, and those that the list of a thread names.
 use Rattle.std.specs.Prelude.{◌≡◌, ◌≢◌, ◌≤◌, ◌<◌, ◌-◌, ◌⊎◌, ◌↔◌, ◌++◌, ℕ, Bool, true, false, List, [], ◌∷◌, Option, None, Some, Vec, length, nat_lt, vec_capacity, vec_len, if◌then◌else◌}
 use Rattle.std.specs.List.{AllPairs, Contains}
 use Rattle.std.specs.declared.alloc.Global.{Global}
@@ -15,35 +15,36 @@ abbrev pub is_waiting : Phase → Bool
 is_waiting (phases.Waits q) = true
 is_waiting phase = false
 
--- the connection has ended, and no letter comes to it any more
+-- the connection has ended, and no completion comes to it any more
 abbrev pub IsDone : {S : Type 0} → Connection S → Type 0
 IsDone c = (c.over ≡ true) × (is_waiting c.state.phase ≡ false)
 
--- the connection has ended, or nothing came and nothing was taken for more than so many seconds while no call of it was under way
+-- the connection has ended, or nothing came and nothing was taken for more than `idle` seconds while no call of it was under way
 abbrev pub IsIdle : {S : Type 0} → ℕ → ℕ → Connection S → Type 0
 IsIdle now idle c = (c.over ≡ true) ⊎ ((is_waiting c.state.phase ≡ false) × (idle < now - c.heard))
 
--- there may be a whole frame, no call is under way, the dialogue has not ended, and fewer than 1,024 bytes are due: more will be due soon
+-- there may be a whole frame, no call is under way, the connection state has not ended, and fewer than 1,024 bytes are unsent: more
+-- bytes will come soon
 abbrev pub GoesOn : {S : Type 0} → Connection S → Type 0
 GoesOn c =
     (c.more ≡ true) × (length c.state.codec.buffers.output.items < 1024) × (ending_of c.state.phase ≡ None) × (is_waiting c.state.phase ≡ false)
 
--- bytes are due, and the socket may take some
+-- bytes are unsent, and the socket may take some
 abbrev pub MayGive : {S : Type 0} → Connection S → Type 0
 MayGive c = (c.over ≡ false) × (c.state.codec.buffers.output.items ≢ []) × (c.readiness.writable ≡ true)
 
--- no bytes are due and no call is under way, and there may be a whole frame in what was read, or more to be read
+-- no bytes are unsent and no call is under way, and there may be a whole frame in the bytes that were read, or more to be read
 abbrev pub MayGoOn : {S : Type 0} → Connection S → Type 0
 MayGoOn c =
     (c.over ≡ false) × (c.state.codec.buffers.output.items ≡ []) × (is_waiting c.state.phase ≡ false)
     × ((c.more ≡ true) ⊎ (c.readiness.readable ≡ true))
 
--- there is something to do on the connection of which neither an event nor a letter will tell: it is to be let go, or bytes are to
--- be written, or it may go on with what came
+-- the connection has work that neither an event nor a completion announces: it is to be dropped, or bytes are to be written, or it may
+-- go on with bytes that came
 abbrev pub IsBehind : {S : Type 0} → Connection S → Type 0
 IsBehind c = IsDone c ⊎ (MayGive c ⊎ MayGoOn c)
 
--- whether a connection is there and is marked as one that has something to do
+-- returns true if a connection is there and is marked as one that has something to do
 abbrev pub is_marked : {S : Type 0} → Option (Connection S) → Bool
 is_marked None = false
 is_marked (Some c) = c.busy
@@ -79,7 +80,7 @@ HasNone m = (slab_len m.connections ≡ 0) × (vec_len m.busy ≡ 0) × (vec_len
 abbrev pub ListsBehind : {S : Type 0} → Slab (Connection S) → List ℕ → Type 0
 ListsBehind {S} connections keys = (key : ℕ) → Contains keys key ↔ ((c : Connection S) × (get connections key ≡ Some c) × IsBehind c)
 
--- no frame that was read is left: where the connection goes on, nothing is due and no call is under way, there is no message to be asked,
+-- no frame that was read is left: if the connection goes on with no byte unsent and no call under way, there is no message to be asked,
 -- and less than a frame
 abbrev pub LeavesNoFrame : {S : Type 0} → Connection S → Type 0
 LeavesNoFrame c =
@@ -94,6 +95,6 @@ NoneBehind {S} connections = (key : ℕ) (c : Connection S) → get connections 
 abbrev pub LooksAgain : {S : Type 0} → Members S → Type 0
 LooksAgain m = (slab_len m.connections ≤ 2) × (m.looks < 200)
 
--- how many nanoseconds a thread waits at most that may sleep: a second where it looks for idle connections, and else without end
+-- the most nanoseconds that a thread sleeps: a second where it looks for idle connections, and else without end
 abbrev pub longest_wait : ℕ → Option ℕ
 longest_wait idle = if nat_lt 0 idle then Some 1_000_000_000 else None

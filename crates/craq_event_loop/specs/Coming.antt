@@ -1,4 +1,4 @@
--- What becomes of a thread's connections as some come and some are left idle.
+-- The connections of a thread after some came and after idle ones ended.
 use Rattle.std.specs.Prelude.{◌≡◌, ◌⊎◌, ◌↔◌, ◌++◌, ℕ, Bool, true, List, [], ◌∷◌, Option, None, Some}
 use Rattle.mio.specs.declared.event.event.Event.{Event}
 use Rattle.mio.specs.Event.{event_token}
@@ -15,8 +15,8 @@ pub record ChangesRoom {S : Type 0} (old new : Members S) : Type 0 where
   pub busy : new.busy.items ≡ old.busy.items
   pub later : new.later.items ≡ old.later.items
 
--- the connection that came is under a key that was vacant, new but for its mark, its key is behind the others in the busy list, and
--- no other connection changes
+-- the connection that came is under a key that was vacant. It is new except for its mark, its key is behind the others in the busy
+-- list, and no other connection changes
 pub record TakesIn {S : Type 0} (stream : S) (slot receipts : ℕ) (old new : Members S) : Type 0 where
   pub key : ℕ
   pub connection : Connection S
@@ -53,7 +53,7 @@ abbrev pub AllReported : {S : Type 0} → List Event → Slab (Connection S) →
 AllReported [] old new = new ≡ old
 AllReported {S} (event ∷ later) old new = (mid : Slab (Connection S)) × TellsOf event old mid × AllReported later mid new
 
--- under this key, it is told whether the connection was left idle, and it is over where it was
+-- under this key, the result reports whether the connection is idle, and the connection is over if it is
 abbrev pub LooksAt : {S : Type 0} → ℕ → ℕ → Bool → Slab (Connection S) → Slab (Connection S) → ℕ → Type 0
 LooksAt {S} now idle reported old new key =
     (c : Connection S) → get old key ≡ Some c → (reported ≡ true ↔ IsIdle now idle c) × (get new key ≡ Some (record c { over = reported }))

@@ -1,4 +1,4 @@
--- How a call comes back by a letter, and with what it is then refused.
+-- The outcome of a call that comes back by a completion, and the refusal that its request then gets.
 use Rattle.std.specs.Prelude.{◌≡◌, Result, Err}
 use Rattle.craq_names.specs.declared.refusal.Refusal.{Refusal}
 use Rattle.craq_names.specs.declared.refusal.Refusal.TheVariants.{Closed}
@@ -15,7 +15,7 @@ pub record IsRefusedAs (ask : Ask) (came reported : Refusal) : Type 0 where
   pub closed : ¬ (CanRefuse ask came) → reported ≡ Closed
   pub can : CanRefuse ask reported
 
--- how a call comes back whose letter says this: with the letter's receipt, or refused as its ask may be refused
+-- the outcome of a call by its completion: the receipt in it, or a refusal that this request can produce
 abbrev pub IsOutcome : Phase → Result Called Refusal → Result Called Refusal → Type 0
 IsOutcome (phases.Waits q) (Err came) outcome = (reported : Refusal) × (outcome ≡ Err reported) × IsRefusedAs q.ask came reported
 IsOutcome phase reply outcome = outcome ≡ reply

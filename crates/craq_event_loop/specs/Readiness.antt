@@ -1,10 +1,10 @@
--- What is known of a connection's readiness.
+-- The readiness of a connection as far as it is known.
 use Rattle.std.specs.Prelude.{◌||◌}
 use Rattle.mio.specs.declared.event.event.Event.{Event}
 use Rattle.mio.specs.Event.{is_error, is_priority, is_read_closed, is_readable, is_writable, is_write_closed}
 use Rattle.craq_event_loop.specs.declared.connection.Readiness.{Readiness}
 
--- once an event tells of it: what was known stays known; an end or a failure is told by a read or a write; after an end, a failure or
+-- the readiness after an event: it stays ready if it was. A read or a write reports an end or a failure; after an end, a failure or
 -- urgent data reads go on until one gives nothing
 abbrev pub noticed : Readiness → Event → Readiness
 noticed r e = record {

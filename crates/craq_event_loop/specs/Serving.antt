@@ -1,4 +1,4 @@
--- What it comes to when what came on some connections is read, and what is due to them is written.
+-- A thread reads from some connections, and writes the bytes that are unsent at others.
 use Rattle.std.specs.Prelude.{◌≡◌, ◌↔◌, ℕ, true, List, Option, None, Some}
 use Rattle.slab.specs.Slab.{Slab, get}
 use Rattle.craq_session.specs.Asking.{Submitting}
@@ -12,9 +12,9 @@ use Rattle.craq_event_loop.specs.Belonging.{KeepsSlot, OneByOne, Reads, Writes}
 use Rattle.craq_event_loop.specs.Busy.{IsBehind, IsDone}
 use Rattle.craq_event_loop.specs.Sockets.{EndsAsSocket, EndsInOrder, ReadsOn, WritesOn}
 
--- what the socket of the connection gave, and no other byte, went to its dialogue, which is as it was where its call is under
--- way; what the socket took is as it was, and no call was asked; its mark is as it was; the connection is over only if it was, or its
--- socket is; and it goes on to read unless its socket has no more for now
+-- the connection state got the bytes that the connection's socket gave, and no other byte. It is unchanged while its call is under
+-- way. The bytes that the socket took are as they were, and no call was asked; the mark is as it was. The connection is over only if
+-- it was, or its socket is; and it goes on to read unless its socket has no more for now
 pub record HasRead {S : Type 0} (remaining contents : S → Option (List ℕ)) (is_over is_dry is_full : S → Type 0) (old new : Connection S) : Type 0 where
   pub reads : Reads (remaining old.stream) (remaining new.stream) old.state new.state
   pub waits : (q : CallRequest) → old.state.phase ≡ phases.Waits q → new.state ≡ old.state
@@ -25,8 +25,8 @@ pub record HasRead {S : Type 0} (remaining contents : S → Option (List ℕ)) (
   pub ready : ReadsOn is_dry old new
   pub slot : KeepsSlot old new
 
--- what the socket of the connection took is the front of what its dialogue had due, and no other byte; what the socket will give
--- is as it was, and no call was asked; the connection is over if its dialogue has said all, and only then, or if it was, or its socket
+-- the bytes that the connection's socket took are the front of those unsent, and no other byte. The bytes that the socket will give
+-- are as they were, and no call was asked. The connection is over just if all its replies are written, or if it was, or its socket
 -- is; and it goes on to write unless its socket takes no more for now
 pub record HasWritten {S : Type 0} (remaining contents : S → Option (List ℕ)) (is_over is_dry is_full : S → Type 0) (old new : Connection S) : Type 0 where
   pub writes : Writes (contents old.stream) (contents new.stream) old.state new.state
@@ -41,18 +41,17 @@ abbrev pub ReadsAt : {S : Type 0} → (S → Option (List ℕ)) → (S → Optio
 ReadsAt {S} remaining contents is_over is_dry is_full old new key =
     (c : Connection S) → get old key ≡ Some c → (d : Connection S) × (get new key ≡ Some d) × HasRead remaining contents is_over is_dry is_full c d
 
--- where a connection was: it is let go exactly where it is done, and else nothing changes but its mark, which it bears exactly where
--- it is behind
+-- the connection is dropped exactly if it is done. Else nothing changes except its mark, which it bears exactly if it is behind
 abbrev pub StaysUnlessDone : {S : Type 0} → Connection S → Option (Connection S) → Type 0
 StaysUnlessDone c None = IsDone c
 StaysUnlessDone c (Some d) = ¬ IsDone c × (d ≡ record c { busy = d.busy }) × (d.busy ≡ true ↔ IsBehind c)
 
--- under this key, the connection has written, and then is let go exactly where it is done
+-- under this key, the connection has written, and is then dropped exactly if it is done
 abbrev pub WritesAt : {S : Type 0} → (S → Option (List ℕ)) → (S → Option (List ℕ)) → (S → Type 0) → (S → Type 0) → (S → Type 0) → Slab (Connection S) → Slab (Connection S) → ℕ → Type 0
 WritesAt {S} remaining contents is_over is_dry is_full old new key =
     (c : Connection S) → get old key ≡ Some c → (d : Connection S) × HasWritten remaining contents is_over is_dry is_full c d × StaysUnlessDone d (get new key)
 
--- the connections under these keys are served: all read, then all have their turns, then all write
+-- the connections under these keys are served: all read, then all have their rounds, then all write
 abbrev pub Serves : {S : Type 0} → (S → Option (List ℕ)) → (S → Option (List ℕ)) → (S → Type 0) → (S → Type 0) → (S → Type 0) → (List ℕ → Type 0) → Refusing → (Token → Submitting) → List ℕ → Slab (Connection S) → Slab (Connection S) → Type 0
 Serves {S} remaining contents is_over is_dry is_full tells refuses submits keys old new =
     (read stepped : Slab (Connection S)) × OneByOne (ReadsAt remaining contents is_over is_dry is_full) keys old read

@@ -1,4 +1,4 @@
--- What a read or a write of a connection's socket came to, and when a connection is over.
+-- The outcome of a read or a write of a connection's socket, and when a connection is over.
 use Rattle.std.specs.Prelude.{◌≡◌, ◌⊎◌, ℕ, zero, suc, true, false, [], IsSome}
 use Rattle.std.specs.declared.io.ErrorKind.{ErrorKind}
 use Rattle.std.specs.declared.io.ErrorKind.TheVariants as errors
@@ -8,23 +8,23 @@ use Rattle.craq_event_loop.specs.declared.connection.Connection.{Connection}
 use Rattle.craq_event_loop.specs.declared.socket.Moved.{Moved}
 use Rattle.craq_event_loop.specs.declared.socket.Moved.TheVariants as moves
 
--- how many bytes went
+-- returns the number of bytes that were read or written
 abbrev pub moved_count : Moved → ℕ
 moved_count (moves.Bytes count) = count
 moved_count moved = 0
 
--- what so many bytes of a system's read or write come to: none that are there, or can be taken, is the end
+-- the outcome of a system's read or write of `count` bytes: no byte at all is the end
 abbrev pub moved_of_count : ℕ → Moved
 moved_of_count zero = moves.Over
 moved_of_count (suc n) = moves.Bytes (suc n)
 
--- what an error of it comes to: to wait for readiness, to try again, or the end
+-- the outcome of an error of it: to wait for readiness, to try again, or the end
 abbrev pub moved_of_error : ErrorKind → Moved
 moved_of_error errors.WouldBlock = moves.NotReady
 moved_of_error errors.Interrupted = moves.Interrupted
 moved_of_error kind = moves.Over
 
--- the dialogue is over, and nothing that it made due is left to be written
+-- the connection state is over, and none of its bytes are unsent
 abbrev pub HasSaidAll : ConnectionState → Type 0
 HasSaidAll state = IsSome (ending_of state.phase) × (state.codec.buffers.output.items ≡ [])
 
@@ -32,7 +32,7 @@ HasSaidAll state = IsSome (ending_of state.phase) × (state.codec.buffers.output
 abbrev pub EndsAsSocket : {S : Type 0} → (S → Type 0) → Connection S → Connection S → Type 0
 EndsAsSocket is_over old new = new.over ≡ true → (old.over ≡ true) ⊎ is_over new.stream
 
--- the connection is over if its dialogue has said all, and only then, or if it was before, or its socket is
+-- the connection is over just if its connection state is over with no byte unsent, or if it was before, or its socket is
 pub record EndsInOrder {S : Type 0} (is_over : S → Type 0) (old new : Connection S) : Type 0 where
   pub said : HasSaidAll new.state → new.over ≡ true
   pub else_on : new.over ≡ true → HasSaidAll new.state ⊎ ((old.over ≡ true) ⊎ is_over new.stream)

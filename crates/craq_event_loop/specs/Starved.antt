@@ -1,4 +1,4 @@
--- Where no frame is left in what was read.
+-- States of a connection in which the bytes that were read have no whole frame left.
 use Rattle.std.specs.Prelude.{⊤, ℕ, List}
 use Rattle.craq_frames.specs.Frame.{IsPartial}
 use Rattle.craq_session.specs.declared.connection_state.Phase.{Phase}

@@ -1,5 +1,5 @@
-//! `LoopBackend`: the backend of an event loop, which is asked without waiting, and the source of its
-//! connections. The server of a store is one.
+//! `LoopBackend`: the backend of an event loop, which is asked without waiting, and the source of
+//! its connections. The server of a store is one.
 ghost use Rattle.std.specs.Prelude.{Bool, List};
 ghost use Rattle.craq_completions.specs.declared.queue_state.Completion.{Completion};
 

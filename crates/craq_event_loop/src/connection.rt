@@ -1,5 +1,5 @@
-//! A connection of an event loop: its socket and its state (`ConnectionState`), and what goes between
-//! them; called by `event_loop`.
+//! A connection of an event loop: its socket and its state (`ConnectionState`), and what goes
+//! between them; called by `event_loop`.
 ghost use Rattle.std.specs.Prelude.{◌≡◌, ◌≤◌, ◌<◌, ◌-◌, ◌↔◌, ◌⊎◌, true, false, length, take, not, IfOk, IsTrue};
 ghost use Rattle.craq_session.specs.declared.connection_state.Phase.TheVariants.{Idle, Waits};
 ghost use Rattle.craq_session.specs.declared.call_request.CallRequest.{CallRequest};
@@ -47,7 +47,7 @@ struct Readiness {
 impl Readiness {
     ghost use Rattle.craq_event_loop.specs.Readiness.{noticed};
 
-    /// Adds what an event reports. What was known stays known.
+    /// Adds the readiness that an event reports. A socket that was ready stays so.
     fn notice(&mut self, event: &Event)
         ensures { self.new ≡ noticed self.old event.now }
     {
@@ -264,7 +264,7 @@ impl<S: Socket> Connection<S> {
         count < room && !self.readiness.until_dry
     }
 
-    /// Reads once and takes what came.
+    /// Reads once and takes the bytes that came.
     #[tactic(auto, using(crate::proofs::Belonging::nothing_came, crate::proofs::Ending::is_as_before, crate::proofs::Ending::ended, crate::proofs::Ending::reads_as_before, crate::proofs::Ending::dried, crate::proofs::Ending::reads_until_short, crate::proofs::Belonging::heard_now, crate::proofs::Belonging::not_heard))]
     fn take(&mut self, alloc: Global, chunk: &mut [u8], now: u64)
         requires { self.old.state.phase ≡ Idle }
@@ -334,8 +334,8 @@ impl<S: Socket> Connection<S> {
             && !self.waits()
     }
 
-    /// Writes unsent bytes once, unless more replies come to them in the next rounds. What its
-    /// socket took, and no other byte, is then written.
+    /// Writes unsent bytes once, unless more replies follow them in the next rounds. Only the bytes
+    /// that its socket took count as written.
     #[tactic(auto, using(crate::proofs::Belonging::nothing_written, crate::proofs::Belonging::nothing_went, crate::proofs::Ending::is_as_before, crate::proofs::Ending::ended, crate::proofs::Ending::writes_as_before, crate::proofs::Ending::filled, crate::proofs::Belonging::gave_now, crate::proofs::Belonging::not_gave))]
     fn write(&mut self, now: u64)
         ensures writes { Writes (S.contents self.old.stream) (S.contents self.new.stream) self.old.state self.new.state }

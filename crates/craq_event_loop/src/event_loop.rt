@@ -1,5 +1,5 @@
-//! `EventLoop`: an event loop. It takes what came, steps each connection that is busy, and sleeps where
-//! none is.
+//! `EventLoop`: an event loop. It takes what came, steps each connection that is busy, and sleeps
+//! where none is.
 ghost use Rattle.std.specs.Prelude.{◌≡◌, ◌≢◌, ◌⊎◌, ◌<◌, ◌≤◌, ◌↔◌, ◌++◌, ℕ, Bool, [], ◌∷◌, Some, None, IfOk, OnErr, OnOk, IsTrue, false, filter, nat_lt, option_map, vec_capacity, vec_len, if◌then◌else◌};
 ghost use Rattle.std.specs.Duration.{as_nanos};
 ghost use Rattle.mio.specs.Events.{items};
@@ -478,8 +478,8 @@ impl Members<Arc<TcpStream>> {
         self.step_all(registry, backend);
     }
 
-    /// Makes another round where no connection has work left. The list then names just the
-    /// connections of the thread that are behind, where it did before.
+    /// Makes another round if no connection has work left. The list then names just the connections
+    /// of the thread that are behind, if it did before.
     fn round_again<H: LoopBackend>(&mut self, registry: &Registry, backend: &H)
         ensures kept { NoneForgotten self.old → NoneForgotten self.new }
         ensures behind { NoneForgotten self.old → ListsBehind self.old.connections self.old.busy.items → ListsBehind self.new.connections self.new.busy.items }
@@ -489,9 +489,9 @@ impl Members<Arc<TcpStream>> {
         }
     }
 
-    /// Makes a round. Makes another one where no connection has work left, for the replies that
-    /// came meanwhile to what was asked in the first: they are written before the next look at
-    /// readiness. The list then names just the connections of the thread that are behind.
+    /// Makes a round. Makes another one if no connection has work left, for the replies that came
+    /// meanwhile to the calls of the first: they are written before the next look at readiness. The
+    /// list then names just the connections of the thread that are behind.
     fn run_once<H: LoopBackend>(&mut self, registry: &Registry, backend: &H)
         ensures kept { NoneForgotten self.old → NoneForgotten self.new }
         ensures behind { NoneForgotten self.old → ListsBehind self.new.connections self.new.busy.items }
@@ -515,9 +515,9 @@ pub struct EventLoop {
 }
 
 impl EventLoop {
-    /// Makes an event loop. `keep_receipts`: whether the receipts of calls are kept; `idle`: the seconds
-    /// without a byte after which a connection is over (0: never). Fails when out of memory, or
-    /// where the system gives no more descriptors.
+    /// Makes an event loop. `keep_receipts`: whether the receipts of calls are kept; `idle`: the
+    /// seconds without a byte after which a connection is over (0: never). Fails when out of
+    /// memory, or where the system gives no more descriptors.
     pub fn new(
         net: &impl Net,
         alloc: Global,

@@ -14,10 +14,10 @@ ghost use Rattle.craq_event_loop.specs.Completions.{IsOutcome};
 
 use crate::LoopBackend;
 
-/// Law: a call that `AsyncBackend::submit` did not refuse may have any refusal of its kind of request.
-/// Then it may be refused with all that its completion can say. So the turn that ends then is one
-/// of a request handler that refuses as the backend does (`halves_are_a_round`). It has no body: the
-/// contract is the law.
+/// Law: a call that `AsyncBackend::submit` did not refuse may have any refusal of its kind of
+/// request. Then it may be refused with all that its completion can say. So the turn that ends then
+/// is one of a request handler that refuses as the backend does (`halves_are_a_turn`). It has no
+/// body: the contract is the law.
 pub fn completions_refuse_as_backends_may<H: LoopBackend>(backend: &H)
     ensures { (q : CallRequest) (reply outcome : Result Called Refusal)
         → MayHaveAny (H.refuses backend.now) q → IsOutcome (Waits q) reply outcome → IsRefusable (H.refuses backend.now) q outcome }

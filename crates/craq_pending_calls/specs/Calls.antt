@@ -1,4 +1,4 @@
--- What a client learns of its call.
+-- The receipt that a client gets for its call.
 use Rattle.std.specs.Prelude.{◌≡◌, ◌<◌, ◌≤◌, ℕ}
 use Rattle.craq_names.specs.declared.name.NodeName.{NodeName}
 use Rattle.craq_model.specs.declared.ask.Answer.{Answer}

@@ -1,4 +1,4 @@
--- With what a call may be refused, by the kind of its ask.
+-- Refusals of a call, by the kind of its request.
 use Rattle.std.specs.Prelude.{⊤}
 use Rattle.craq_names.specs.declared.refusal.Refusal.{Refusal}
 use Rattle.craq_names.specs.declared.refusal.Refusal.TheVariants as refusals
@@ -18,8 +18,8 @@ CanWait (asks.Read modes.Strong object) = ⊤
 CanWait (asks.Read modes.Eventual object) = ⊥
 CanWait (asks.Read (modes.Bounded k) object) = ⊥
 
--- with what an ask of a node of a chain may be refused: only an update because the node is not the head, only one that may wait
--- because too many wait; the chain has no such node, or the store is closed, or memory lacks
+-- the refusals of a request at a node of a chain: NotHead only for an update, PendingFull only for a request that may wait. Any
+-- request may be refused because the chain has no such node, the store is closed, or the server is out of memory
 abbrev pub CanRefuse : Ask → Refusal → Type 0
 CanRefuse ask refusals.TwoChains = ⊤
 CanRefuse ask (refusals.NotHead head) = IsUpdate ask

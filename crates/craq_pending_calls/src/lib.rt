@@ -8,5 +8,5 @@ mod refusing;
 mod sorting;
 
 pub use answering::{answer_of_call, pass_after};
-pub use refusing::refusal_of_call;
+pub use refusing::{is_update, refusal_of_call};
 pub use sorting::receipts_by_chain;

@@ -8,7 +8,7 @@ use craq_model::Ask;
 use craq_names::Refusal;
 
 /// Returns whether a request is an update.
-fn is_update(ask: &Ask) -> bool
+pub fn is_update(ask: &Ask) -> bool
     ensures { IsTrue result ↔ IsUpdate ask.now }
 {
     match ask {

@@ -1,4 +1,4 @@
--- With what a served store may refuse a call.
+-- Refusals of a call at a served store.
 use Rattle.std.specs.Prelude.{◌≡◌, ◌⊎◌, ℕ}
 use Rattle.craq_names.specs.declared.name.NodeName.{NodeName}
 use Rattle.craq_names.specs.declared.refusal.Refusal.{Refusal}
@@ -6,6 +6,7 @@ use Rattle.craq_names.specs.declared.refusal.Refusal.TheVariants.{Exhausted, Mem
 use Rattle.craq_model.specs.declared.ask.Ask.{Ask}
 use Rattle.craq_workers.specs.Clients.{RefusesAsk}
 
--- the pass is too far above those that were told, or memory lacks; or as a store of so many chains may refuse the ask
+-- the pass is too far above those in earlier replies, or the server is out of memory; or the refusal is that of a store of that many
+-- chains
 abbrev pub RefusesServed : ℕ → NodeName → Ask → Refusal → Type 0
 RefusesServed chains node ask e = (e ≡ Exhausted) ⊎ ((e ≡ Memory) ⊎ RefusesAsk chains node ask e)

@@ -56,16 +56,19 @@ pub struct Serving {
 pub struct ServeReport {
     /// The receipts of all calls where they are kept, by order of connection and then of calls.
     pub receipts: Vec<Vec<CallReceipt>>,
-    /// True where some connection was ended at once because the process was out of memory or threads.
+    /// True where some connection was ended at once because the process was out of memory or
+    /// threads.
     pub had_failures: bool,
-    /// True where the listener failed for a reason that lasts, so that no more connections were taken.
+    /// True where the listener failed for a reason that lasts, so that no more connections were
+    /// taken.
     pub listener_failed: bool,
 }
 
 /// The outcome of taking connections.
 #[derive(Clone, Copy, Debug)]
 pub(crate) struct Taken {
-    /// True where some connection was ended at once because the process was out of memory or threads.
+    /// True where some connection was ended at once because the process was out of memory or
+    /// threads.
     pub(crate) had_failures: bool,
     /// True where the listener failed for a reason that lasts.
     pub(crate) listener_failed: bool,
@@ -345,8 +348,8 @@ where
 
 /// Serves the connections of a listener to a store, each until its client ends it, at most as many
 /// at once as `connections` has places. One more is closed without a reply. Returns once as many
-/// connections were made as the `Serving` of `event_loops` says, or `connections` are to end, or the
-/// listener has failed, and all connections are over.
+/// connections were made as the `Serving` of `event_loops` says, or `connections` are to end, or
+/// the listener has failed, and all connections are over.
 ///
 /// Where `event_loops` has threads, they serve all connections in turn; else each connection has a
 /// thread of its own. Fails where one of those threads cannot be made; no connection was taken
@@ -354,11 +357,11 @@ where
 ///
 /// The listener is made non-blocking. An error of it that may pass, as no free descriptor or an
 /// aborted connection, is followed by a pause of 10 milliseconds and another try. After an error
-/// that lasts (`ServeReport::listener_failed`) what the open connections brought is still answered, and
-/// those that are open 5 seconds later are cut. A connection for which there is no thread or no
-/// memory is closed at once (`ServeReport::had_failures`). The system is asked to hold at most 65,536 bytes in
-/// each direction of a connection and to probe silent peers (`prepare`); a connection for which it
-/// refuses that is closed and not counted.
+/// that lasts (`ServeReport::listener_failed`) what the open connections brought is still answered,
+/// and those that are open 5 seconds later are cut. A connection for which there is no thread or no
+/// memory is closed at once (`ServeReport::had_failures`). The system is asked to hold at most
+/// 65,536 bytes in each direction of a connection and to probe silent peers (`prepare`); a
+/// connection for which it refuses that is closed and not counted.
 pub fn accept_with<'x, R, C, G>(
     rt: R,
     alloc: Global,

@@ -1,5 +1,5 @@
-//! `EventLoops`: the event loops of a server, made before serving starts. And serving by a few threads,
-//! an event loop each; called by `accepting`.
+//! `EventLoops`: the event loops of a server, made before serving starts. And serving by a few
+//! threads, an event loop each; called by `accepting`.
 ghost use Rattle.std.specs.Prelude.{◌≡◌, [], IfOk, length};
 
 use crate::accepting::{Next, Server, Serving, Taken};
@@ -139,7 +139,7 @@ where
     C: Core + Send + 'static,
     G: Gate + Send + Sync + 'static,
 {
-    /// Makes what a thread with this event loop reaches. Fails when out of memory, or where the
+    /// Makes the context of a thread with this event loop. Fails when out of memory, or if the
     /// system refuses a wake-up.
     fn new(server: &'s Server<'a, R, C, G>, event_loop: EventLoop) -> Result<Self, AllocError> {
         let completions = CompletionQueue::new(server.alloc, Some(event_loop.waker()?));
@@ -228,8 +228,8 @@ where
     }
 }
 
-/// The way in which connections are served, and an event loop for each thread that serves many of them: what
-/// `accept_with` needs before it begins.
+/// The way in which connections are served, and an event loop for each thread that serves many of
+/// them: what `accept_with` needs before it begins.
 #[derive(Drop)]
 pub struct EventLoops {
     pub(crate) serving: Serving,
@@ -250,7 +250,7 @@ impl EventLoops {
         Ok(EventLoops { serving, all })
     }
 
-    /// Makes what a thread for each connection needs beforehand, which is nothing.
+    /// Makes the value for serving by a thread for each connection: no event loop.
     pub(crate) fn threadless(alloc: Global, serving: Serving) -> Self
         ensures serving { result.serving ≡ serving }
         ensures none { result.all.items ≡ [] }
@@ -332,8 +332,8 @@ where
     }
 }
 
-/// Serves the connections of a listener by a thread for each event loop. Fails where a thread, or
-/// what it needs, cannot be made; no connection was taken then.
+/// Serves the connections of a listener by a thread for each event loop. Fails if a thread, or its
+/// context, cannot be made; no connection was taken then.
 pub(crate) fn serve_by_threads<'a, R, C, G>(
     server: &Server<'a, R, C, G>,
     listener: &TcpListener,

@@ -1,4 +1,4 @@
--- A call that was asked, by what came of it at once.
+-- A call that was asked, by its immediate outcome.
 use Rattle.std.proofs.Common.{◌≡◌, None, Some, Ok, Err, subst, sym}
 use Rattle.craq_names.specs.declared.refusal.Refusal.{Refusal}
 use Rattle.craq_seat.specs.Calls.{Called}
@@ -9,7 +9,7 @@ use Rattle.craq_session.specs.declared.connection_state.Phase.TheVariants.{Waits
 use Rattle.craq_session.specs.declared.call_request.CallRequest.{CallRequest}
 
 module _ (refuses : Refusing) (submits : Submitting) (phase : Phase) (q : CallRequest) (is : phase ≡ Waits q) where
-  -- a letter will come
+  -- a completion will come
   pub asked_and_waits : submits q None → MayHaveAny refuses q → IsAsked refuses submits phase None
   asked_and_waits so may = subst (λ (x : Phase). IsAsked refuses submits x None) (sym is) (so, may)
 

@@ -1,4 +1,4 @@
--- What was made due stays an answer to what came, step by step.
+-- The unsent replies stay an answer to the messages that came, step by step.
 use Rattle.std.proofs.Common.{◌≡◌, ℕ, List, [], ◌∷◌, ◌++◌, Option, None, Some, Ok, Err, refl, sym, ap, ◌∙◌, append_assoc, subst}
 use Rattle.std.proofs.lemmas.List.{append-nil}
 use Rattle.craq_names.specs.declared.refusal.Refusal.{Refusal}
@@ -22,7 +22,7 @@ use Rattle.craq_session.specs.declared.connection_state.Stepped.TheVariants as s
 use Rattle.craq_session.specs.declared.call_request.CallRequest.{CallRequest}
 use Rattle.craq_session.specs.ConnectionStates.{Continues, Found, KeepsRoom}
 
--- the bytes that were written and those that are due, with more due
+-- the bytes that were written and those that are unsent, with more unsent bytes
 more_unsent : (written old new unsent : List ℕ) → new ≡ old ++ unsent → (written ++ old) ++ unsent ≡ written ++ new
 more_unsent written old new unsent e = append_assoc written old unsent ∙ ap (λ (x : List ℕ). written ++ x) (sym e)
 
@@ -31,7 +31,7 @@ pub then_asked : (read written o n i j unsent : List ℕ) (a b : Option Asking) 
     → n ≡ o ++ unsent → Advances i j unsent b (Ok (Ask m)) → Stands read (written ++ o) i a None turns → Stands read (written ++ n) j b (Some m) turns
 then_asked read written o n i j unsent a b m turns e h s = subst (λ (x : List ℕ). Stands read x j b (Some m) turns) (more_unsent written o n unsent e) (stands_asked read (written ++ o) i j unsent a b m turns s h)
 
--- the next frame spells nothing
+-- the next frame encodes nothing
 pub then_refused : (read written o n i j unsent : List ℕ) (a b : Option Asking) (turns : History)
     → n ≡ o ++ unsent → Advances i j unsent b (Ok Refused) → Stands read (written ++ o) i a None turns → Stands read (written ++ n) j b None turns
 then_refused read written o n i j unsent a b turns e h s = subst (λ (x : List ℕ). Stands read x j b None turns) (more_unsent written o n unsent e) (stands_refused read (written ++ o) i j unsent a b turns s h)
@@ -54,13 +54,13 @@ pub then_too_long : (read written o n i j unsent : List ℕ) (a b : Option Askin
 then_too_long read written o n i j unsent a b turns e h (between k s none) = (i, k, written ++ o, unsent, s, h, sym (more_unsent written o n unsent e))
 then_too_long read written o n i j unsent a b turns e h (within k payload earlier now few s u is) = absurd cc
 
--- the next frame was not looked for, for want of memory
+-- out of memory, the next frame was not looked for
 pub then_ended : (read written o n i : List ℕ) (a : Option Asking) (turns : History)
     → n ≡ o → Stands read (written ++ o) i a None turns → Session next_turn [] read (written ++ n) turns neither (Err refusals.Memory)
 then_ended read written o n i a turns e (between k s none) = (i, k, turns, subst (λ (x : List ℕ). Served next_turn [] read i (written ++ x) k turns) (sym e) s, idle refl)
 then_ended read written o n i a turns e (within k payload earlier now few s u is) = absurd cc
 
--- where it is not a length above the limit that ends a conversation, no more is due
+-- no more bytes are unsent at the end, unless a length above the limit is its reason
 pub no_more_unsent : (o n i j unsent : List ℕ) (b : Option Asking) (r : Refusal) → n ≡ o ++ unsent → Advances i j unsent b (Err r) → (r ≡ refusals.FrameTooLong → ⊥) → n ≡ o
 no_more_unsent o n i j unsent b refusals.FrameTooLong e h other = absurd (other refl)
 no_more_unsent o n i j unsent b refusals.Memory e h other = e ∙ ap (λ (x : List ℕ). o ++ x) h ∙ append-nil o
@@ -73,14 +73,14 @@ then_replied read written o n i j unsent a b m r next turns e same f s =
     subst (λ (x : List ℕ). Stands read (written ++ n) x b next (turns ++ (m, r) ∷ [])) (sym same)
     (subst (λ (x : List ℕ). Stands read x i b next (turns ++ (m, r) ∷ [])) (more_unsent written o n unsent e) (stands_replied read (written ++ o) i unsent a b m r next turns s f))
 
--- no more is due where a reply is not told
+-- no more bytes are unsent after a reply that is not encoded
 pub none_unsent : (o n unsent : List ℕ) (a b : Option Asking) (r : ClientReply) (refusal : Refusal) → n ≡ o ++ unsent → Follows a r unsent b (Err refusal) → n ≡ o
 none_unsent o n unsent None b r refusals.Memory e f = e ∙ ap (λ (x : List ℕ). o ++ x) f ∙ append-nil o
 none_unsent o n unsent (Some asking) b r refusals.Memory e f = e ∙ ap (λ (x : List ℕ). o ++ x) f ∙ append-nil o
 none_unsent o n unsent None b r refusal e f = absurd f
 none_unsent o n unsent (Some asking) b r refusal e f = absurd f
 
--- a message had its turn, and its reply is not told
+-- a message had its turn, and its reply is not encoded
 pub then_lost : (read written o n i unsent : List ℕ) (a b : Option Asking) (m : ClientMessage) (r : ClientReply) (refusal : Refusal) (turns : History)
     → n ≡ o ++ unsent → Follows a r unsent b (Err refusal) → Stands read (written ++ o) i a (Some m) turns → Session next_turn [] read (written ++ n) (turns ++ (m, r) ∷ []) neither (Err refusals.Memory)
 then_lost read written o n i unsent a b m r refusal turns e f (between k s none) = absurd cc

@@ -1,4 +1,4 @@
--- What the halves of a turn come to.
+-- The two halves of a turn: the call that a message asks for, and the reply to its outcome.
 use Rattle.std.proofs.Common.{◌≡◌, ◌↔◌, ◌∙◌, ℕ, List, Result, Ok, Err, IfOk, IfErr, OnErr, inl, inr, refl, sym, ap, subst}
 use Rattle.std.proofs.lemmas.Result.{IfOk-weaker, IfErr-weaker}
 use Rattle.craq_names.specs.declared.refusal.Refusal.{Refusal}
@@ -33,7 +33,7 @@ called_replied tells old m (replies.Read pass version value) new h = h
 called_replied tells old m (replies.Status text) new h = absurd (no_status _ h.0.answer text h.1.0.answered)
 called_replied tells old m (replies.Refused refusal) new h = absurd (no_refusal _ h.0.answer refusal h.1.0.answered)
 
--- for want of memory each message may be refused, and a call with what it came back with
+-- each message may be refused when out of memory, and a call with the refusal that it came back with
 refuses_memory : (m : ClientMessage) → MayReplyRefused for_memory m Memory
 refuses_memory (messages.Update node pass update) = refl
 refuses_memory (messages.Read node pass mode object) = refl
@@ -60,7 +60,7 @@ call_reported tells refuses old node pass ask r reported new ok err same t =
     let m = message_of node pass ask in
     came_turn tells refuses old old m r reported new refl (IfOk-weaker r _ _ (λ reply is. called_replied tells old m reply new is) ok) (IfErr-weaker r _ _ (λ e is. refuses_call node pass ask refuses e is) err) same t
 
--- Closed may be told, and is neither BadFrame nor the reply of a call
+-- Closed is a reply that a request handler may give, and is neither BadFrame nor the reply of a call
 closed_allowed : IsAllowed (replies.Refused Closed)
 closed_allowed = record { rules = tt; short = tt }
 
@@ -79,7 +79,7 @@ err_closed r e is closed = cc
 refused_closed : (e : Refusal) → replies.Refused e ≡ replies.Refused Closed → e ≡ Closed
 refused_closed e is = cc
 
--- Closed is told exactly where a call that came back is refused so
+-- the reply is Closed exactly if the call that came back is refused so
 reported_closed : (old : List Called) (m : ClientMessage) (r : Result ClientReply Refusal) (reported : ClientReply) (new : List Called)
     → IfOk r (λ reply. IsCalled old m reply new) → IsReported r reported → (reported ≡ replies.Refused Closed) ↔ (r ≡ Err Closed)
 reported_closed old m (Ok reply) reported new ok (inl t) = (λ is. absurd (called_closed old m reply new ok (sym t.1 ∙ is)), λ is. absurd (ok_closed reply Closed is))

@@ -1,4 +1,4 @@
--- What a door tells of a turn is a turn.
+-- The reply that a request handler reports for a turn is a turn.
 use Rattle.std.proofs.Common.{◌≡◌, ◌∙◌, ℕ, ◌≤◌, List, length, Ok, Err, Result, IfErr, IfOk, OnErr, inl, inr, refl, sym, subst}
 use Rattle.std.proofs.lemmas.Result.{IfErr-weaker}
 use Rattle.craq_names.specs.declared.refusal.Refusal.{Refusal}
@@ -26,12 +26,12 @@ pub reported_refusal : (tells : List ℕ → Type 0) (refuses : Refusing) (old :
 reported_refusal tells refuses old m e reported new can same (inl is) = subst (λ (x : ClientReply). IsAnswered tells refuses old m x new) (sym is.1) (inl (can, same))
 reported_refusal tells refuses old m e reported new can same (inr other) = subst (λ (x : ClientReply). IsAnswered tells refuses old m x new) (sym other.1) (inr (refl, inl (e, other.0, can, same)))
 
--- what a message came to is told, after the receipts that are not kept were let go
+-- the outcome of a message is reported, after the receipts that are not kept were dropped
 pub came_turn : (tells : List ℕ → Type 0) (refuses : Refusing) (old begun : List Called) (m : ClientMessage) (outcome : Result ClientReply Refusal) (reported : ClientReply) (new : List Called) → begun ≡ old → IfOk outcome (λ r. IsReplied tells begun m r new) → IfErr outcome (λ e. MayReplyRefused refuses m e) → OnErr outcome (new ≡ begun) → IsReported outcome reported → IsAnswered tells refuses old m reported new
 came_turn tells refuses old begun m (Ok r) reported new at came can same is = reported_turn tells refuses old m r reported new (subst (λ (x : List Called). IsReplied tells x m r new) at came) is
 came_turn tells refuses old begun m (Err e) reported new at came can same is = reported_refusal tells refuses old m e reported new can (same ∙ at) is
 
--- where memory lacks in fewer cases
+-- a refusal that is possible when out of memory in fewer cases is possible in more
 lacks_too : (P Q : Type 0) (refuses : Refusing) (m : ClientMessage) (e : Refusal) → (P → Q) → MayReplyRefused (or_memory_where P refuses) m e → MayReplyRefused (or_memory_where Q refuses) m e
 lacks_too P Q refuses (messages.Update node pass update) e more (inl is) = inl (is.0, more is.1)
 lacks_too P Q refuses (messages.Update node pass update) e more (inr is) = inr is

@@ -14,14 +14,14 @@ use Rattle.craq_session.specs.declared.call_request.Begun.TheVariants as begun
 use Rattle.craq_session.specs.Halves.{BeginsTurn, CanComeBack, ComesBack, EndsTurn, IsAnothers, IsRefusable, RefusesCall, asked_by, tells_none}
 use Rattle.craq_session.specs.Turns.{Refusing, MayReplyRefused, IsAnswered, IsHidden, IsRefused, IsReplied, IsTurn, kept, message_of, name_of, or_memory}
 
--- where no status is told, it does not matter which texts may be
+-- a reply that is no status is a reply under any rule for status texts
 replied_too : (tells : List ℕ → Type 0) (old : List Called) (m : ClientMessage) (r : ClientReply) (new : List Called) → IsReplied tells_none old m r new → IsReplied tells old m r new
 replied_too tells old m (replies.Update pass reply) new h = h
 replied_too tells old m (replies.Read pass version value) new h = h
 replied_too tells old m (replies.Status text) new h = absurd h.1
 replied_too tells old m (replies.Refused refusal) new h = absurd h
 
--- what may be refused by fewer refusals may be by more
+-- a message that may be refused by fewer refusals may be refused by more
 module _ (tells : List ℕ → Type 0) (r s : Refusing) (old : List Called) (m : ClientMessage) (new : List Called) (more : (e : Refusal) → MayReplyRefused r m e → MayReplyRefused s m e) where
   hidden_too : IsHidden tells_none r old m new → IsHidden tells s old m new
   hidden_too (inl h) = inl (h.0, h.1, more h.0 h.2, h.3)
@@ -56,12 +56,12 @@ pub halves_turn : (tells : List ℕ → Type 0) (keep_receipts : Bool) (old mid 
     → BeginsTurn tells keep_receipts old m (begun.Calls q) mid → EndsTurn q outcome mid reply new → IsTurn tells (λ node pass ask e. RefusesCall q outcome e) keep_receipts old m reply new
 halves_turn tells keep_receipts old mid new m q outcome reply h ends = turn_too tells (λ node pass ask e. RefusesCall q outcome e) keep_receipts old mid new m q outcome reply (λ e is. is) h ends
 
--- an answer that is not told as Closed is refused for want of memory alone
+-- a request that is refused, but not with Closed, is refused only when out of memory
 own_refused : (refuses : Refusing) (q : CallRequest) (e : Refusal) → CanComeBack e → (e ≡ Closed → ⊥) → or_memory refuses (name_of q.node.node q.ask) q.pass q.ask e
 own_refused refuses q e (inl is) other = absurd (other is)
 own_refused refuses q e (inr is) other = inl is
 
--- a call that came back as it may is refused as it may be, or for want of memory
+-- a call that came back as it may is refused as it may be, or when out of memory
 comes_refused : (refuses : Refusing) (q : CallRequest) (outcome : Result Called Refusal) → q.node ≡ name_of q.node.node q.ask → ComesBack refuses q outcome
     → (e : Refusal) → RefusesCall q outcome e → or_memory refuses (name_of q.node.node q.ask) q.pass q.ask e
 comes_refused refuses q (Ok c) node back e h = own_refused refuses q e h.0 (λ is. h.1.0 is back)
@@ -72,13 +72,13 @@ pub halves_door : (tells : List ℕ → Type 0) (refuses : Refusing) (keep_recei
     → ComesBack refuses q outcome → BeginsTurn tells keep_receipts old m (begun.Calls q) mid → EndsTurn q outcome mid reply new → IsTurn tells (or_memory refuses) keep_receipts old m reply new
 halves_door tells refuses keep_receipts old mid new m q outcome reply back h ends = turn_too tells (or_memory refuses) keep_receipts old mid new m q outcome reply (comes_refused refuses q outcome h.1 back) h ends
 
--- a call whose callee may refuse it with all that it can be refused with
+-- a call that its backend may refuse with any refusal of its kind
 pub halves_refusable : (tells : List ℕ → Type 0) (refuses : Refusing) (keep_receipts : Bool) (old mid new : List Called) (m : ClientMessage) (q : CallRequest) (outcome : Result Called Refusal) (reply : ClientReply)
     → IsRefusable refuses q outcome → BeginsTurn tells keep_receipts old m (begun.Calls q) mid → EndsTurn q outcome mid reply new → IsTurn tells refuses keep_receipts old m reply new
 halves_refusable tells refuses keep_receipts old mid new m q outcome reply may h ends =
     turn_too tells refuses keep_receipts old mid new m q outcome reply (λ e is. subst (λ (x : NodeName). refuses x q.pass q.ask e) h.1 (may e is)) h ends
 
--- no receipt comes where Closed is told
+-- no receipt comes with the reply Closed
 closed_frame : Closed ≡ BadFrame → ⊥
 closed_frame e = cc
 

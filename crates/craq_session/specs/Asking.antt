@@ -1,4 +1,4 @@
--- How a call is asked whose answer may come later, and what came of it at once.
+-- A call that is asked and whose reply may come later, and its immediate outcome.
 use Rattle.std.specs.Prelude.{◌≡◌, Option, None, Some, Result, Ok, Err}
 use Rattle.craq_names.specs.declared.refusal.Refusal.{Refusal}
 use Rattle.craq_pending_calls.specs.Refused.{CanRefuse}
@@ -12,11 +12,11 @@ use Rattle.craq_session.specs.declared.call_request.CallRequest.{CallRequest}
 abbrev pub MayHaveAny : Refusing → CallRequest → Type 0
 MayHaveAny refuses q = (e : Refusal) → CanRefuse q.ask e → refuses q.node q.pass q.ask e
 
--- which calls were asked, and what came of each at once
+-- the calls that were submitted, each with its immediate outcome
 abbrev pub Submitting : Type 1
 Submitting = CallRequest → Option (Result Called Refusal) → Type 0
 
--- what came at once of a call that was asked: its receipt, its refusal, or nothing, where a letter will come
+-- the immediate outcome of a call that was asked: its receipt, its refusal, or nothing, where a completion will come
 abbrev pub at_once : Result (Option Called) Refusal → Option (Result Called Refusal)
 at_once (Ok None) = None
 at_once (Ok (Some c)) = Some (Ok c)
@@ -27,7 +27,7 @@ abbrev pub IsRefusedAtOnce : Refusing → CallRequest → Option (Result Called 
 IsRefusedAtOnce refuses q (Some (Err e)) = refuses q.node q.pass q.ask e
 IsRefusedAtOnce refuses q came = MayHaveAny refuses q
 
--- the call that is under way was asked, and this came of it at once; where none is under way none was asked, and nothing came
+-- the call that is under way was asked, and had this immediate outcome; where none is under way none was asked, and nothing came
 abbrev pub IsAsked : Refusing → Submitting → Phase → Option (Result Called Refusal) → Type 0
 IsAsked refuses submits (phases.Waits q) came = submits q came × IsRefusedAtOnce refuses q came
 IsAsked refuses submits phase came = came ≡ None

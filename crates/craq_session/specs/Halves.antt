@@ -21,7 +21,7 @@ use Rattle.craq_session.specs.Turns.{message_of, kept, name_of, for_memory, Refu
 abbrev pub asked_by : CallRequest → ClientMessage
 asked_by q = message_of q.node.node q.pass q.ask
 
--- what a message asks for: a call of a node of the chain of the ask's first object, or a status
+-- the demand of a message: a call of a node of the chain of the request's first object, or a status
 abbrev pub Asks : ClientMessage → Demand → Type 0
 Asks m (demands.Call q) = (m ≡ asked_by q) × (q.node ≡ name_of q.node.node q.ask)
 Asks m demands.Status = m ≡ messages.Status
@@ -54,35 +54,35 @@ MakesRoom old message (begun.Calls q) new = HasRoom new
 abbrev pub IsAnothers : CallRequest → Called → Type 0
 IsAnothers q c = ¬ IsCallOf q.node q.ask q.pass c.answer c
 
--- which refusals can come of an answer that came back: it is another call's, or there was no memory for a copy of it
+-- the refusals after an answer that came back: it is another call's, or there was no memory for a copy of it
 abbrev pub CanComeBack : Refusal → Type 0
 CanComeBack e = (e ≡ Closed) ⊎ (e ≡ Memory)
 
--- why a call is refused that came back so: as it was refused; or where it was answered as one of two, as Closed exactly where
+-- the refusal of a call that came back so: its own; or, where it was answered, one of two: Closed exactly where
 -- the receipt is another call's
 abbrev pub RefusesCall : CallRequest → Result Called Refusal → Refusal → Type 0
 RefusesCall q (Err refusal) e = e ≡ refusal
 RefusesCall q (Ok c) e = CanComeBack e × ((e ≡ Closed) ↔ IsAnothers q c)
 
--- a call that came back so is told as Closed: the receipt is another call's, or it was refused so
+-- a call that came back so gets the reply Closed: the receipt is another call's, or it was refused so
 abbrev pub IsClosed : CallRequest → Result Called Refusal → Type 0
 IsClosed q (Err refusal) = refusal ≡ Closed
 IsClosed q (Ok c) = IsAnothers q c
 
--- no status is told
+-- no text is a status
 abbrev pub tells_none : List ℕ → Type 0
 tells_none text = ⊥
 
--- the second half of a turn: told is the reply of the call that came back, or why it is refused
+-- the second half of a turn: the reply is that of the call that came back, or its refusal
 pub record EndsTurn (q : CallRequest) (outcome : Result Called Refusal) (old : List Called) (reported : ClientReply) (new : List Called) : Type 0 where
   pub answered : IsAnswered tells_none (λ node pass ask e. RefusesCall q outcome e) old (asked_by q) reported new
   pub closed : (reported ≡ replies.Refused Closed) ↔ IsClosed q outcome
 
--- how a call comes back: with the receipt of just this call, or refused as it may be
+-- a call comes back: with the receipt of just this call, or refused as it may be
 abbrev pub ComesBack : Refusing → CallRequest → Result Called Refusal → Type 0
 ComesBack refuses q (Ok c) = IsCallOf q.node q.ask q.pass c.answer c
 ComesBack refuses q (Err e) = refuses q.node q.pass q.ask e
 
--- with whatever a call is refused that came back so, it may be refused
+-- each refusal of a call that came back so is one that it may have
 abbrev pub IsRefusable : Refusing → CallRequest → Result Called Refusal → Type 0
 IsRefusable refuses q outcome = (e : Refusal) → RefusesCall q outcome e → refuses q.node q.pass q.ask e

@@ -1,4 +1,4 @@
--- What the door of a store answers.
+-- Replies of a store's request handler.
 use Rattle.std.specs.Prelude.{◌≡◌, ◌⊎◌, ℕ, Bool, if◌then◌else◌, List, [], ◌∷◌, ◌++◌, max, Result, Ok, Err}
 use Rattle.craq_names.specs.declared.name.NodeName.{NodeName}
 use Rattle.craq_names.specs.declared.refusal.Refusal.{Refusal}
@@ -40,8 +40,8 @@ kept keep_receipts receipts = if keep_receipts then receipts else []
 abbrev pub IsCalled : List Called → ClientMessage → ClientReply → List Called → Type 0
 IsCalled old message reply new = (c : Called) × (IsReplyOf message reply c × (new ≡ old ++ c ∷ []))
 
--- what a message comes to, where it is not refused: an answer is that of a call; a status is told where it is asked for, has a
--- text that was told, and is no call
+-- the reply to a message that is not refused: that of an update or a read is the reply of a call; a status is given where it is
+-- asked for, has a text of the store, and is no call
 abbrev pub IsReplied : (List ℕ → Type 0) → List Called → ClientMessage → ClientReply → List Called → Type 0
 IsReplied tells old message (replies.Update pass reply) new = IsCalled old message (replies.Update pass reply) new
 IsReplied tells old message (replies.Read pass version value) new = IsCalled old message (replies.Read pass version value) new
@@ -52,35 +52,35 @@ IsReplied tells old message (replies.Refused refusal) new = ⊥
 abbrev pub name_of : ℕ → Ask → NodeName
 name_of node ask = record { chain = chain_of_first (asked_objects ask); node = node }
 
--- with what a call of a node, with a pass, may be refused
+-- the refusals of a call at a node, with a pass
 abbrev pub Refusing : Type 1
 Refusing = NodeName → ℕ → Ask → Refusal → Type 0
 
--- for want of memory alone
+-- refuses only when out of memory
 abbrev pub for_memory : Refusing
 for_memory node pass ask e = e ≡ Memory
 
--- for want of memory too
+-- refuses also when out of memory
 abbrev pub or_memory : Refusing → Refusing
 or_memory refuses node pass ask e = (e ≡ Memory) ⊎ refuses node pass ask e
 
--- for want of memory too, where this holds
+-- refuses also when out of memory, where this holds
 abbrev pub or_memory_where : Type 0 → Refusing → Refusing
 or_memory_where lacks refuses node pass ask e = ((e ≡ Memory) × lacks) ⊎ refuses node pass ask e
 
--- which refusals can come in the place of a reply: of a call one with which it may be refused; of a status want of memory alone
+-- the refusals that can replace a reply: of a call those with which it may be refused; of a status only that it is out of memory
 abbrev pub MayReplyRefused : Refusing → ClientMessage → Refusal → Type 0
 MayReplyRefused refuses (messages.Update node pass update) e = refuses (name_of node (asks.Update update)) pass (asks.Update update) e
 MayReplyRefused refuses (messages.Read node pass mode object) e = refuses (name_of node (asks.Read mode object)) pass (asks.Read mode object) e
 MayReplyRefused refuses messages.Status e = e ≡ Memory
 
--- a message came to what no door may tell: to a refusal, and no receipt came, or to a reply
+-- the outcome of a message is none that a request handler may give: a refusal, and no receipt came, or a reply
 abbrev pub IsHidden : (List ℕ → Type 0) → Refusing → List Called → ClientMessage → List Called → Type 0
 IsHidden tells refuses old message new =
     ((e : Refusal) × (¬ IsAllowed (replies.Refused e)) × MayReplyRefused refuses message e × (new ≡ old))
     ⊎ ((reply : ClientReply) × (¬ IsAllowed reply) × IsReplied tells old message reply new)
 
--- nothing was answered, and no receipt came; or, as BadFrame, something came that no door may tell
+-- the message has no answer, and no receipt came; or the refusal is BadFrame, and the outcome is none that a handler may give
 abbrev pub IsRefused : (List ℕ → Type 0) → Refusing → List Called → ClientMessage → Refusal → List Called → Type 0
 IsRefused tells refuses old message refusal new =
     (MayReplyRefused refuses message refusal × (new ≡ old)) ⊎ ((refusal ≡ BadFrame) × IsHidden tells refuses old message new)
@@ -90,15 +90,15 @@ abbrev pub IsAnswered : (List ℕ → Type 0) → Refusing → List Called → C
 IsAnswered tells refuses old message (replies.Refused refusal) new = IsRefused tells refuses old message refusal new
 IsAnswered tells refuses old message reply new = IsReplied tells old message reply new
 
--- a turn of a door that keeps its receipts or not, where a status has a text that was told, and a call is refused as it may be
+-- a turn of a request handler that keeps its receipts or not. A status has a text of the store, and a call is refused as it may be
 abbrev pub IsTurn : (List ℕ → Type 0) → Refusing → Bool → List Called → ClientMessage → ClientReply → List Called → Type 0
 IsTurn tells refuses keep_receipts old message reply new = IsAnswered tells refuses (kept keep_receipts old) message reply new
 
--- the reply is told as it is where a door may give it, and refused in its place where not
+-- the reply is given as it is if a request handler may give it; else it is refused
 abbrev pub IsReplyAllowed : ClientReply → ClientReply → Type 0
 IsReplyAllowed reply reported = (IsAllowed reply × (reported ≡ reply)) ⊎ ((¬ IsAllowed reply) × (reported ≡ replies.Refused BadFrame))
 
--- what a message came to is told: its reply, or its refusal
+-- the reply that is reported for the outcome of a message: its reply, or its refusal
 abbrev pub IsReported : Result ClientReply Refusal → ClientReply → Type 0
 IsReported (Ok reply) reported = IsReplyAllowed reply reported
 IsReported (Err refusal) reported = IsReplyAllowed (replies.Refused refusal) reported

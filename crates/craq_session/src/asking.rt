@@ -1,5 +1,5 @@
 //! `AsyncBackend`: a backend that takes a call without waiting, and the right to ask it; for
-//! `state` and for event loops.
+//! `connection_state` and for event loops.
 ghost use Rattle.std.specs.Prelude.{IfErr, IfOk, Option, Result};
 ghost use Rattle.craq_completions.specs.declared.token.Token.{Token};
 ghost use Rattle.craq_names.specs.declared.refusal.Refusal.{Refusal};
@@ -12,8 +12,9 @@ use craq_completions::Token;
 use craq_names::Refusal;
 use craq_seat::CallReceipt;
 
-/// A call that a step made (`Stepped::Calls`). Only a step makes one, and only `ConnectionState::ask`
-/// takes it. It is neither `Copy` nor `Drop`, so each call that a step made is asked exactly once.
+/// A call that a step made (`Stepped::Calls`). Only a step makes one, and only
+/// `ConnectionState::ask` takes it. It is neither `Copy` nor `Drop`, so each call that a step made
+/// is asked exactly once.
 #[derive(Debug)]
 pub struct UnsentCall {
     _made: (),
@@ -32,9 +33,9 @@ impl UnsentCall {
     }
 }
 
-/// The right to ask a call. Only `ConnectionState::ask` makes one, of a call that a step made (`UnsentCall`).
-/// It is not `Copy`, and the backend takes it. So no call is asked twice, and none that no step
-/// made, as long as the backend asks nothing without one.
+/// The right to ask a call. Only `ConnectionState::ask` makes one, of a call that a step made
+/// (`UnsentCall`). It is not `Copy`, and the backend takes it. So no call is asked twice, and none
+/// that no step made, as long as the backend asks nothing without one.
 #[derive(Debug, Drop)]
 pub struct SubmitToken {
     _made: (),

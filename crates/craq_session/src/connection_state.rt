@@ -1,4 +1,5 @@
-//! `ConnectionState`: the state of one connection whose calls are answered later; for an event loop.
+//! `ConnectionState`: the state of one connection whose calls are answered later; for an event
+//! loop.
 ghost use Rattle.std.specs.Prelude.{◌≡◌, None};
 ghost use Rattle.craq_session.specs.declared.connection_state.Phase.TheVariants.{Idle};
 ghost use Rattle.craq_session.specs.ConnectionStates.{KeepsRoom};
@@ -72,8 +73,8 @@ impl ConnectionState {
     ghost use Rattle.craq_session.specs.Turns.{kept};
     ghost use Rattle.craq_session.specs.ConnectionStates.{AnswersCall, Holds, IsUnderWay, Took, ending_of};
 
-    /// Makes the state of a new connection. `keep_receipts`: whether the receipts of its calls are kept.
-    /// Takes no memory.
+    /// Makes the state of a new connection. `keep_receipts`: whether the receipts of its calls are
+    /// kept. Takes no memory.
     pub fn new(alloc: Global, keep_receipts: bool) -> Self
         ensures holds { Holds result.phase result.codec [] [] [] }
         ensures input { result.codec.buffers.input.items ≡ [] }
@@ -175,8 +176,9 @@ impl ConnectionState {
     }
 
     /// Makes the call that is under way, under this token. Returns its outcome at once, a receipt
-    /// or a refusal; else `None`, and a completion with this token will come (`AsyncBackend::submit`).
-    /// Where no call is under way none is made. `light_load` says that few connections are busy.
+    /// or a refusal; else `None`, and a completion with this token will come
+    /// (`AsyncBackend::submit`). Where no call is under way none is made. `light_load` says that
+    /// few connections are busy.
     #[tactic(auto, using(crate::proofs::Asked::asked_and_waits, crate::proofs::Asked::asked_and_answered, crate::proofs::Asked::asked_and_refused))]
     pub fn ask<T: AsyncBackend>(
         &self,

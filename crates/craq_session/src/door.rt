@@ -49,8 +49,8 @@ pub struct CallDoor<C: BlockingBackend> {
 }
 
 impl<C: BlockingBackend> CallDoor<C> {
-    /// Makes the request handler of a new connection. `keep_receipts`: whether receipts are kept. Takes no
-    /// memory.
+    /// Makes the request handler of a new connection. `keep_receipts`: whether receipts are kept.
+    /// Takes no memory.
     pub fn new(alloc: Global, backend: C, keep_receipts: bool) -> Self
         ensures keep_receipts { result.calls.keep_receipts ≡ keep_receipts }
         ensures receipts { result.calls.receipts.items ≡ [] }

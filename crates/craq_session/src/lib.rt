@@ -1,6 +1,6 @@
 //! The request handlers of a served store: `CallDoor`, which waits for each call of its backend
-//! (`BlockingBackend`), and `ConnectionState`, whose calls are answered later (`AsyncBackend`). Code that runs in the
-//! programs.
+//! (`BlockingBackend`), and `ConnectionState`, whose calls are answered later (`AsyncBackend`).
+//! Code that runs in the programs.
 #![tactic(auto)]
 
 mod asking;

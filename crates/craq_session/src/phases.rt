@@ -1,4 +1,4 @@
-//! The next state of a connection after a step or the outcome of a call; for `state`.
+//! The next state of a connection after a step or the outcome of a call; for `connection_state`.
 ghost use Rattle.std.specs.Prelude.{◌≡◌, None};
 ghost use Rattle.craq_front.specs.Door.{IsAllowed};
 ghost use Rattle.craq_session.specs.ConnectionStates.{AnswersCall, Continues, Found, HasNoMore, HasOneMore, KeepsRoom, Took};

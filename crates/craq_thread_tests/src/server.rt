@@ -17,16 +17,16 @@ use std::thread;
 use std::thread::{Scope, Threads};
 use std::time::{Clock, Duration};
 
-/// How often the nodes are told to send again what others may lack.
+/// Milliseconds between the ticks at which nodes send again what others may lack.
 const TICK_MILLISECONDS: u64 = 50;
 
-/// By how many threads all connections are served where each has none of its own.
+/// Number of threads that serve all connections where each has none of its own.
 const THREADS: u32 = 2;
 
-/// How many connections there are.
+/// Number of connections.
 const CONNECTIONS: u32 = 3;
 
-/// How the connections of a store are served.
+/// Ways in which the connections of a store are served.
 #[derive(Clone, Copy)]
 pub enum Manner {
     /// Each on a thread of its own.
@@ -48,7 +48,7 @@ pub const MANNERS: [(Manner, &str); 2] = [
 ];
 
 impl Manner {
-    /// Returns who takes the steps of a store that is served so.
+    /// Returns the gate of a store that is served so: it names the threads that take its steps.
     fn gate(self) -> OpenGate {
         OpenGate {
             in_place: true,

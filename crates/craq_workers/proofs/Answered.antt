@@ -1,4 +1,4 @@
--- What an audit of a chain's cells answers is what the store answers that has the chain and keeps journals.
+-- The answer of an audit of a chain's cells is that of the store that has the chain and keeps journals.
 use Rattle.std.proofs.Common.{◌≡◌, ℕ, List, Result, Ok, Err, Some, map, option_map, slice_get, ap, inr, ◌∙◌}
 use Rattle.std.proofs.lemmas.Option.{slice_get-map}
 use Rattle.craq_names.specs.declared.refusal.Refusal.{Refusal}

@@ -1,9 +1,5 @@
 pub mod Answered
-pub mod Asks
 pub mod Memberships
 pub mod Moves
 pub mod Names
-pub mod Owed
 pub mod Posts
-pub mod Telling
-pub mod Routes

@@ -1,4 +1,4 @@
--- With what a cell refuses a stop, a removal and a join.
+-- Refusals of a stop, a removal and a join by a cell.
 use Rattle.std.proofs.Common.{◌≡◌, ◌==◌, ◌+◌, ◌&&◌, ◌||◌, ℕ, Bool, true, false, not, nat_le, if◌then◌else◌, length, Result, Ok, Err, IsOk, IfErr, inl, inr, refl, sym, ap, subst}
 use Rattle.craq_names.specs.Limits.{greatest, member_limit}
 use Rattle.craq_names.specs.Order.{RefusesWhere}
@@ -56,12 +56,12 @@ under : {N E : Type 0} (P : Refusal → Type 0) (step : Stepping N E) (c : Celle
 under P step c event pass (Ok stamp) h k e is = unrecorded P c stamp event pass (step c.inside event) k e is
 under P step c event pass (Err d) h k e is = one P d (h d refl) e is
 
--- a cell refuses as what is inside does, or there is no further stamp
+-- a cell refuses as the node inside does, or there is no further stamp
 pub unstepped : {N E : Type 0} (P : Refusal → Type 0) (step : Stepping N E) (c : Celled N E) (event : E) (borne pass : ℕ) → P refusals.Exhausted → Among P (step c.inside event) → Among P (cell_step step c event borne pass)
 unfolding cell_step
 unstepped P step c event borne pass h k = under P step c event pass (next_stamp c.stamp pass borne) (unstamped P c.stamp pass borne h) k
 
--- or memory lacks
+-- a refusal is one of these, also when out of memory
 pub wanted : {A : Type 0} (P : Refusal → Type 0) (can : Type 0) (e : Refusal) (r : Result A Refusal) → P refusals.Memory → Among P r → RefusesWhere can e r → P e
 wanted P can e r m h (inl k) = subst P (sym k.0) m
 wanted P can e r m h (inr k) = h e k
@@ -70,7 +70,7 @@ unreported : (P : Refusal → Type 0) (r : Result Mastered Refusal) → Among P 
 unreported P (Ok m) h e is = cc
 unreported P (Err d) h e is = one P d (h d refl) e is
 
--- a master takes nobody in
+-- refusals of a join by a master
 pub not_joined : (m : Mastered) (id : ℕ) → Among CanJoin (book_step m (books.Join id))
 unfolding master_after_join
 not_joined m id =
@@ -79,7 +79,7 @@ not_joined m id =
     (either CanJoin (nat_le member_limit (length m.members)) _ _ (one CanJoin refusals.ChainFull tt)
     (either CanJoin (m.epoch == greatest) _ _ (one CanJoin refusals.Exhausted tt) (none CanJoin _))))
 
--- a master lets nobody go
+-- refusals of a removal by a master
 pub not_removed : (m : Mastered) (stopped : NodeName) (stop : Receipt) → Among IsKeptIn (book_step m (books.Remove stopped stop))
 unfolding removed
 not_removed m stopped stop =
@@ -102,13 +102,13 @@ stopped_of represents now old pass (Ok receipt) h e is = cc
 stopped_of represents now old pass (Err d) h e is =
     one CanStop d (wanted CanStop (CanWant old 0 pass (IsOk (uncounted_step old.inside events.Stop))) d (cell_step node_step old events.Stop 0 pass) (inl tt) (unstepped CanStop node_step old events.Stop 0 pass (inr refl) (not_stopped old.inside)) h.1.0) e is
 
--- the same of a node's cell
+-- a node's cell refuses a stop as a node may
 pub stop_refused : {C : Type 0} (represents : C → Plain → Type 0) (now old : Celled C Event) (pass : ℕ) (r : Result Receipt Refusal) (e : Refusal)
     → IsKept represents old → ((p : Plain) → represents old.inside p → TakesEvent represents now (with_inside old p) events.Stop pass r) → r ≡ Err e → CanStop e
 stop_refused represents now old pass r e kept h is =
     stopped_of represents now (with_inside old kept.named.0) pass r (h kept.named.0 kept.named.1) e is
 
--- the same of a master's
+-- a master refuses a join as it may
 pub join_refused : (old new : Celled Mastered BookEvent) (id pass : ℕ) (r : Result Receipt Refusal) → TakesTransition old new (books.Join id) pass r → IfErr r CanJoin
 join_refused old new id pass (Ok receipt) h = tt
 join_refused old new id pass (Err e) h =

@@ -25,7 +25,7 @@ begins p id x e =
     let at = found (slice_get p id) x e in
     drop_more p id x (slice_get_within p id x at) ∙ ap (λ (y : Chain). y ∷ drop (id + 1) p) (get_or_from_slice_get p id x x at)
 
--- what is told of chains, of one more
+-- the values of some chains, and that of one more
 pub reported_more : {A B : Type 0} (old new : List A) (c : A) (f : A → B) (rest all : List B) → new ≡ old ++ c ∷ [] → map f old ++ f c ∷ rest ≡ all → map f new ++ rest ≡ all
 reported_more {A} {B} old new c f rest all same h =
     ap (λ (z : List A). map f z ++ rest) same ∙ ap (λ (z : List B). z ++ rest) (map-append f old (c ∷ [])) ∙ append_assoc (map f old) (f c ∷ []) rest ∙ h

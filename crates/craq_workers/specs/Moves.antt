@@ -1,15 +1,8 @@
--- With what a store that runs may refuse a stop, a removal and a join.
+-- Refusals of a stop, a removal and a join in a running store.
 use Rattle.std.specs.Prelude.{◌≡◌, ◌⊎◌, ⊤}
 use Rattle.craq_names.specs.declared.refusal.Refusal.{Refusal}
 use Rattle.craq_names.specs.declared.refusal.Refusal.TheVariants as refusals
-
--- a chain has no such node to give: its store is closed, it never had the node, it let it go, or memory lacks
-abbrev pub IsMissed : Refusal → Type 0
-IsMissed refusals.Closed = ⊤
-IsMissed refusals.WrongNode = ⊤
-IsMissed refusals.Stopped = ⊤
-IsMissed refusals.Memory = ⊤
-IsMissed e = ⊥
+use Rattle.craq_running_chain.specs.Missed.{IsMissed}
 
 -- a node that is to stop has stopped before, or it has no further stamp, or there is no such node
 abbrev pub CanStop : Refusal → Type 0
@@ -27,7 +20,7 @@ IsKeptIn e = ⊥
 abbrev pub CanRemove : Refusal → Type 0
 CanRemove e = IsMissed e ⊎ IsKeptIn e ⊎ (e ≡ refusals.NotStopped)
 
--- a node does not join: its id was used, the chain is full, there is no further stamp or epoch, memory lacks, or the store is closed
+-- a node does not join: its id was used, the chain is full, there is no further stamp or epoch, the store is out of memory or closed
 abbrev pub CanJoin : Refusal → Type 0
 CanJoin refusals.UsedId = ⊤
 CanJoin refusals.ChainFull = ⊤

@@ -1,4 +1,4 @@
--- What a contract sees of a store that runs, and what it answers that is asked for the audit of a chain.
+-- The view that contracts have of a running store, and its answer to a request for the audit of a chain.
 use Rattle.std.specs.Prelude.{◌≡◌, ◌<◌, ◌≤◌, ◌⊎◌, ◌+◌, ℕ, List, [], ◌∷◌, Bool, true, false, Some, length, slice_get, Result, Ok, Err}
 use Rattle.craq_names.specs.declared.refusal.Refusal.{Refusal}
 use Rattle.craq_names.specs.declared.refusal.Refusal.TheVariants as refusals
@@ -35,8 +35,8 @@ IsMasterOf store chain book = slice_get store.masters chain ≡ Some (first_mast
 abbrev pub IsOther : Stored → ℕ → Celled Mastered BookEvent → Type 0
 IsOther store chain book = IsBook book × ¬ (IsMasterOf store chain book)
 
--- why there is no answer: first the chain is looked for, then journals; then it is as an audit of cells of this chain is
--- refused, or its lock holds the master of another; want of memory comes only where journals are kept
+-- reasons for no answer: first the chain is looked for, then journals; then it is as an audit of cells of this chain is
+-- refused, or its lock holds the master of another. It is out of memory only where journals are kept
 abbrev pub IsRefused : {C : Type 0} → (C → Plain → Type 0) → Stored → ℕ → List Called → Refusal → Type 0
 IsRefused represents store chain receipts refusals.UnknownChain = length store.names ≤ chain
 IsRefused represents store chain receipts refusals.JournalOff =
@@ -46,7 +46,7 @@ IsRefused represents store chain receipts refusals.WrongNode =
 IsRefused represents store chain receipts refusals.Memory = HasJournals store chain
 IsRefused represents store chain receipts e = ⊥
 
--- what a store answers that is asked for the audit of a chain
+-- the answer of a store to a request for the audit of a chain
 abbrev pub AuditAnswers : {C : Type 0} → (C → Plain → Type 0) → Stored → ℕ → List Called → Result Audit Refusal → Type 0
 AuditAnswers represents store chain receipts (Ok audit) = HasJournals store chain × Confirms represents (IsMasterOf store chain) receipts (Ok audit)
 AuditAnswers represents store chain receipts (Err e) = IsRefused represents store chain receipts e

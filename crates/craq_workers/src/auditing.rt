@@ -3,15 +3,13 @@
 ghost use Rattle.std.specs.Prelude.{◌≡◌, IfOk, length};
 ghost use Rattle.craq_workers.specs.Stores.{AuditAnswers};
 
-use crate::gate::Gate;
-use crate::node::RunningNode;
-use crate::steps::SeatedNode;
 use crate::store::Store;
 use craq_audit::Audit;
 use craq_completions::CompletionSender;
 use craq_locked_chain::LockedChain;
 use craq_names::{ChainId, Refusal};
 use craq_node::Core;
+use craq_running_node::{Gate, RunningNode, SeatedNode};
 use craq_seat::{BookCell, CallReceipt};
 use std::alloc::{AllocError, Global};
 use std::sync::{Arc, MutexGuard, Wait};

@@ -3,17 +3,16 @@
 ghost use Rattle.std.specs.Prelude.{◌≡◌, ◌⊎◌, ◌≤◌, ◌↔◌, max, Err, IfErr, IfOk, Ok, OnErr, length};
 ghost use Rattle.craq_pending_calls.specs.Calls.{IsCallOf};
 ghost use Rattle.craq_pending_calls.specs.Refused.{CanRefuse};
-ghost use Rattle.craq_workers.specs.Asks.{IsCalled};
+ghost use Rattle.craq_running_chain.specs.Asks.{IsCalled};
 ghost use Rattle.craq_workers.specs.Clients.{RefusesAsk, only};
 
-use crate::chain::Chain;
-use crate::gate::Gate;
-use crate::shared::{Return, Shared};
 use craq_completions::{Completion, CompletionQueue, Outcome, Token};
 use craq_model::{Answer, Ask};
 use craq_names::{NodeName, Pass, Refusal};
 use craq_node::Core;
 use craq_pending_calls::{answer_of_call, pass_after, refusal_of_call};
+use craq_running_chain::{Chain, Shared};
+use craq_running_node::{AskingCaller, Gate};
 use craq_seat::CallReceipt;
 use std::alloc::Global;
 use std::marker::Model;
@@ -145,13 +144,13 @@ impl<C: Core, G: Gate> Client<C, G> {
         ensures refused { IfErr result (λ e. CanRefuse ask.now e) }
         ensures called { IsCalled C.represents self.now.chain_threads ask.now self.now.pass only result }
     {
-        let back = Return {
+        let caller = AskingCaller {
+            pass: self.pass,
             completions,
             token: ONLY,
+            light_load: true,
         };
-        let found = self
-            .shared
-            .submit(rt, self.alloc, chain, node, ask, self.pass, back, true)?;
+        let found = self.shared.submit(rt, chain, node, ask, caller)?;
         match found {
             Some(receipt) => Ok(receipt),
             None => wait_for_completion(rt, completions, ask),

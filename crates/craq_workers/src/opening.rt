@@ -10,22 +10,20 @@ ghost use Rattle.craq_place.specs.Plan.{IsPlan};
 ghost use Rattle.craq_workers.specs.Posts.{Links, Master, chain_posts, member_posts, node_posts, post_of};
 ghost use Rattle.craq_workers.specs.Stores.{masters_of};
 
-use crate::chain::{Chain, Open, RoutingTable};
-use crate::node::{Entrances, Queues, Route, RunningNode};
 use crate::staff::Staff;
-use crate::wake_up::WakeUp;
-use crate::work::Worker;
 use craq_locked_chain::ChainBook;
 use craq_model::Config;
 use craq_names::{ChainId, Copied, NodeId, NodeName, Refusal, Stamp};
 use craq_node::Core;
 use craq_place::{MOST_CHAINS, Plan};
+use craq_running_chain::{Chain, Open, RoutingTable, WakeUp, Worker};
+use craq_running_node::{Entrances, Queues, Route, RunningNode};
 use craq_seat::{Cell, Desk};
 use crossbeam_channel::Sender;
 use std::alloc::{AllocError, Global};
 use std::sync::{Arc, Mutex, RwLock};
 
-/// What a store keeps, and which threads take its steps.
+/// The form of a store: whether it keeps journals, and which threads take its steps.
 #[derive(Clone, Copy)]
 pub(crate) struct Form {
     /// The cells keep journals.

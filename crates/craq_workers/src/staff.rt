@@ -2,7 +2,7 @@
 ghost use Rattle.std.specs.Prelude.{◌≡◌};
 ghost use Rattle.craq_workers.specs.Posts.{is_per_chain};
 
-use crate::gate::Gate;
+use craq_running_node::Gate;
 
 /// Which threads of a store take the steps of its nodes.
 #[derive(Clone, Copy, Debug, PartialEq, Eq)]

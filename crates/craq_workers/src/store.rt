@@ -9,23 +9,16 @@ ghost use Rattle.craq_seat.specs.Books.{IsBook};
 ghost use Rattle.craq_seat.specs.Cells.{receipt_of, with_inside};
 ghost use Rattle.craq_seat.specs.Kept.{IsKept};
 ghost use Rattle.craq_seat.specs.Taken.{TakesEvent, TakesTransition};
-ghost use Rattle.craq_workers.specs.Asks.{IsServed};
+ghost use Rattle.craq_running_chain.specs.Asks.{IsServed};
 ghost use Rattle.craq_workers.specs.Clients.{RefusesAsk};
-ghost use Rattle.craq_workers.specs.Moves.{CanJoin, CanRemove, CanStop, IsKeptIn, IsMissed};
+ghost use Rattle.craq_running_chain.specs.Missed.{IsMissed};
+ghost use Rattle.craq_workers.specs.Moves.{CanJoin, CanRemove, CanStop, IsKeptIn};
 ghost use Rattle.craq_workers.specs.Posts.{node_posts};
 ghost use Rattle.craq_workers.specs.Stores.{masters_of};
 
-use crate::callers::WaitingCaller;
-use crate::chain::{Chain, refuse_queued};
 use crate::client::Client;
-use crate::gate::Gate;
-use crate::node::{Route, RunningNode};
 use crate::opening::{Form, add_workers, open_chains, open_node};
-use crate::replies::Replies;
-use crate::shared::{Return, Shared};
 use crate::staff::Staff;
-use crate::steps::{dismiss, sent_by_book};
-use crate::work::{Worker, master_of, work};
 use craq_completions::{CompletionQueue, Token};
 use craq_epochs::{MEMBER_LIMIT, StopReceipt, is_among};
 use craq_locked_chain::ChainBook;
@@ -33,6 +26,10 @@ use craq_model::{Ask, Config, Event};
 use craq_names::{ChainId, Copied, NodeId, NodeName, Pass, Refusal, Stamp};
 use craq_node::Core;
 use craq_place::Plan;
+use craq_running_chain::{Chain, Shared, Wakes, Worker, master_of, refuse_queued, run_worker};
+use craq_running_node::{
+    AskingCaller, Gate, Route, RunningNode, dismiss, refuse_callers, sent_by_book,
+};
 use craq_seat::{BookCell, BookEvent, CallReceipt, Desk, Receipt};
 use craq_sending::Sent;
 use crossbeam_channel::{Receiver, Sender};
@@ -115,7 +112,6 @@ fn statuses_of<R: Wait, C: Core>(
 /// Starts a worker in a thread of its own. Fails when out of memory, and if no thread can be made.
 fn hire<R, C, G>(
     rt: R,
-    alloc: Global,
     shared: &Arc<Shared<C, G>>,
     worker: Worker<C>,
     alive: Sender<()>,
@@ -126,7 +122,7 @@ where
     G: Gate + Send + Sync + 'static,
 {
     let shared = Arc::try_clone(shared)?;
-    let hired = thread::spawn(&rt, move || work(&rt, alloc, shared, worker, alive))?;
+    let hired = thread::spawn(&rt, move || run_worker(&rt, shared, worker, alive))?;
     Ok(hired)
 }
 
@@ -203,11 +199,7 @@ fn stop_node<R: Wait, C: Core>(
     let callers = dismiss(alloc, &mut seated);
     drop(seated);
     node.halt();
-    let mut replies = Replies::new(alloc);
-    for caller in callers {
-        replies.add(rt, WaitingCaller::waited(caller), Err(Refusal::Stopped));
-    }
-    replies.tell(rt);
+    refuse_callers(rt, alloc, callers, &Refusal::Stopped);
     Ok(receipt)
 }
 
@@ -281,9 +273,13 @@ impl<C: Core, G: Gate> Store<C, G> {
         ensures left { IfErr result (λ e. (e ≡ Refusal.UnknownChain) ⊎ IsServed C.represents ask.now pass token (Some (Err e)) ⊎ IsMissed e) }
     {
         let chain = self.shared.chain(node.chain)?;
-        let back = Return { completions, token };
-        self.shared
-            .submit(rt, self.alloc, chain, node, ask, pass, back, light_load)
+        let caller = AskingCaller {
+            pass,
+            completions,
+            token,
+            light_load,
+        };
+        self.shared.submit(rt, chain, node, ask, caller)
     }
 
     /// Ticks all chains: each master, and each node that runs, sends again what others may lack.
@@ -342,6 +338,7 @@ impl<C: Core + Send + 'static, G: Gate + Send + Sync + 'static> Store<C, G> {
         let mut workers = Vec::new(alloc);
         let chains = open_chains(alloc, plan, form, &alive, &mut workers)?;
         let shared = Shared {
+            alloc,
             gate,
             chain_threads: form.staff.is_per_chain(),
             in_place: form.staff != Staff::TwoPerNode,
@@ -372,7 +369,7 @@ impl<C: Core + Send + 'static, G: Gate + Send + Sync + 'static> Store<C, G> {
     ) -> Result<(), AllocError> {
         for worker in workers {
             let alive = alive.clone()?;
-            let hired = hire(rt, self.alloc, &self.shared, worker, alive)?;
+            let hired = hire(rt, &self.shared, worker, alive)?;
             drop(hired);
         }
         Ok(())
@@ -485,7 +482,7 @@ impl<C: Core + Send + 'static, G: Gate + Send + Sync + 'static> Store<C, G> {
         add_workers(route, staff, &mut workers)?;
         for worker in workers {
             hired.reserve(1)?;
-            hired.push(hire(rt, self.alloc, &self.shared, worker, place.alive(&rt)?)?)?;
+            hired.push(hire(rt, &self.shared, worker, place.alive(&rt)?)?)?;
         }
         Ok(())
     }
@@ -515,7 +512,8 @@ impl<C: Core + Send + 'static, G: Gate + Send + Sync + 'static> Store<C, G> {
 
     /// Sends the master's messages.
     fn announce<R: Wait>(&self, rt: &R, chain: ChainId, sent: Vec<Sent>) {
-        self.shared.post(rt, &master_of(chain), sent, false);
+        self.shared
+            .post(rt, &master_of(chain), sent, Wakes::ChainThread);
     }
 
     /// Ends the workers, and waits until the last one has ended; a gate that waits delays it.

@@ -7,7 +7,7 @@ use Rattle.craq_model.specs.Members.{IsMembership, is_member}
 use Rattle.craq_chain.proofs.Opening.{id_from_one, own_member}
 use Rattle.craq_workers.specs.Posts.{post_of}
 use Rattle.craq_workers.proofs.Posts.{next_posted}
-use Rattle.craq_workers.proofs.Routes.{each_more, made_more}
+use Rattle.craq_running_chain.proofs.Routes.{each_more, made_more}
 use Rattle.craq_workers.proofs.opening.open_members.Goals as goal
 
 pub open_node-requires : goal.open_node-requires

@@ -3,7 +3,7 @@ use Rattle.craq_event_loop.specs.Busy.{NoneForgotten}
 use Rattle.craq_event_loop.specs.Coming.{AllReported}
 use Rattle.craq_event_loop.proofs.event_loop.Members.notice.Given as goal
 
--- the events so far have told, and those that the iterator still has come behind them
+-- the events so far are noted, and those that the iterator still has come behind them
 abbrev pub invariant-loop-event : goal.invariant-loop-event
 invariant-loop-event g l =
     (NoneForgotten l.fn.self → NoneForgotten l.self)

@@ -1,7 +1,7 @@
 use Rattle.std.proofs.Common.{inl, sym}
 use Rattle.std.proofs.lemmas.Result.{err_from_is_err_and}
 use Rattle.craq_workers.specs.Clients.{only}
-use Rattle.craq_workers.proofs.Asks.{called_at_once, called_by_completion}
+use Rattle.craq_running_chain.proofs.Asks.{called_at_once, called_by_completion}
 use Rattle.craq_workers.proofs.client.Client.reply_into.Goals as goal
 
 pub returns-in_err-found-clause-called : goal.returns-in_err-found-clause-called

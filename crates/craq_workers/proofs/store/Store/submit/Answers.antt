@@ -1,4 +1,4 @@
-use Rattle.craq_workers.proofs.Asks.{left_in_hand, taken_in_hand}
+use Rattle.craq_running_chain.proofs.Asks.{left_in_hand, taken_in_hand}
 use Rattle.craq_workers.proofs.store.Store.submit.Goals as goal
 
 pub returns-clause-taken : goal.returns-clause-taken

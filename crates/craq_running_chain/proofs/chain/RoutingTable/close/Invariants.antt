@@ -1,0 +1,7 @@
+use Rattle.craq_running_node.specs.Routes.{shut}
+use Rattle.craq_running_chain.proofs.Routes.{Changed}
+use Rattle.craq_running_chain.proofs.chain.RoutingTable.close.Given as goal
+
+-- the ways up to here are changed
+abbrev pub invariant-loop-route : goal.invariant-loop-route
+invariant-loop-route g l = Changed shut l.route-index l.initial.route-items l.route-items

@@ -1,0 +1,294 @@
+//! `NodeBatch`: a batch of steps of a node under its lock, and what these steps send; begun by
+//! `work`, `chain_thread` and `shared`.
+ghost use Rattle.std.specs.Sync.Mutex.{mutex_guard_value};
+ghost use Rattle.std.specs.Prelude.{◌≡◌, ◌⊎◌, ℕ, [], None, Some, false};
+ghost use Rattle.craq_locked_chain.specs.Held.{cell_in};
+ghost use Rattle.craq_node.specs.Represented.{CanArrive};
+ghost use Rattle.craq_running_chain.specs.declared.unsent.Unsent.TheVariants as unsent;
+ghost use Rattle.craq_running_node.specs.Replies.{ClosesOwn, ClosesQueued, ReactsTo, RefusesOwn, RefusesQueued, TakesOwn, TakesQueued};
+ghost use Rattle.craq_running_chain.specs.Batches.{Hears, HoldsBack, OwesLast, OwesStill, TakesBrought};
+
+use crate::shared::{Shared, Wakes};
+use crate::unsent::Unsent;
+use bytes::Bytes;
+use craq_completions::Outcome;
+use craq_model::Event;
+use craq_names::{Refusal, Seq};
+use craq_node::Core;
+use craq_running_node::{
+    Gate, OwnAsk, QueuedAsk, Replies, RunningNode, SeatedNode, Waiting, entries_by_node,
+    lone_ack_of, lone_entry_of, refuse_asked, sent_by_node, take_event, take_own, take_queued,
+};
+use craq_sending::{LoneAck, Sent};
+use craq_wire::decode;
+use std::alloc::Global;
+use std::mem;
+use std::sync::{MutexGuard, Wait};
+
+/// The way out of a node, for what its batch sends.
+#[derive(Drop)]
+struct Exit<'a, C: Core, G: Gate> {
+    alloc: Global,
+    shared: &'a Shared<C, G>,
+    node: &'a RunningNode<C>,
+    wakes: Wakes,
+}
+
+impl<'a, C: Core, G: Gate> Exit<'a, C, G> {
+    /// Sends messages, in order.
+    fn post<R: Wait>(&self, rt: &R, sent: Vec<Sent>) {
+        self.shared.post(rt, &self.node.name, sent, self.wakes);
+    }
+
+    /// Sends an acknowledgement. Out of memory, it is lost.
+    fn acknowledge<R: Wait>(&self, rt: &R, ack: LoneAck) {
+        if let Ok(sent) = ack.encode(self.alloc) {
+            self.shared.send(rt, &self.node.name, sent, self.wakes);
+        }
+    }
+}
+
+/// A batch of steps of a node, whose lock it holds. Sends at once what a step sends, except for two
+/// kinds of steps.
+///
+/// - A step that only acknowledges: its acknowledgement is owed. It goes out before the next
+///   message of another step, and at the latest at the end of the batch. It is dropped if that of a
+///   later step makes it needless.
+/// - A step that only sends an entry: the entry is held back until the end of the batch. One entry
+///   goes out then as its step sends it. Several go out as the entries of one tick, in messages of
+///   up to 16. What else that tick sends is not needed, and is not sent.
+///
+/// A batch has no drop: only `end` ends it, after what is held back and owed. No contract says that
+/// this goes out, since none sees what the links take.
+pub(crate) struct NodeBatch<'a, C: Core, G: Gate> {
+    exit: Exit<'a, C, G>,
+    seated: MutexGuard<'a, SeatedNode<C>>,
+    replies: Replies,
+    owed: Option<LoneAck>,
+    unsent: Unsent,
+}
+
+impl<'a, C: Core, G: Gate> NodeBatch<'a, C, G> {
+    /// Begins a batch of a node whose lock is held. It owes nothing yet and holds nothing back.
+    /// Takes no memory.
+    pub(crate) fn begin(
+        shared: &'a Shared<C, G>,
+        node: &'a RunningNode<C>,
+        seated: MutexGuard<'a, SeatedNode<C>>,
+        wakes: Wakes,
+    ) -> Self
+        ensures seated { result.seated ≡ seated.entry }
+        ensures replies { result.replies ≡ record { replies = []; short = false } }
+        ensures owed { result.owed ≡ None }
+        ensures unsent { result.unsent ≡ unsent.Nothing }
+    {
+        let alloc = shared.alloc;
+        NodeBatch {
+            exit: Exit {
+                alloc,
+                shared,
+                node,
+                wakes,
+            },
+            seated,
+            replies: Replies::new(alloc),
+            owed: None,
+            unsent: Unsent::Nothing,
+        }
+    }
+
+    /// Ends the batch: sends what is held back and what is owed, unlocks the node, and then sends
+    /// the replies to callers.
+    pub(crate) fn end<R: Wait>(self, rt: &R) {
+        let mut batch = self;
+        batch.flush(rt);
+        batch.let_go(rt);
+    }
+
+    /// Sends what is owed, unlocks the node, and then sends the replies to callers.
+    fn let_go<R: Wait>(self, rt: &R)
+        requires { self.unsent ≡ unsent.Nothing }
+    {
+        let NodeBatch {
+            exit,
+            seated,
+            replies,
+            owed,
+            unsent: _,
+        } = self;
+        if let Some(ack) = owed {
+            exit.acknowledge(rt, ack);
+        }
+        drop(seated);
+        replies.tell(rt);
+    }
+
+    /// Sends what is held back: one entry of the last step as that step sends it; several as the
+    /// entries of one tick of the node, in messages of up to 16.
+    ///
+    /// Nothing else that the tick sends goes out, and no message of entries that went out before.
+    /// Out of memory, the entries wait for the next tick, as what a link loses does.
+    fn flush<R: Wait>(&mut self, rt: &R)
+        ensures unsent { self.new.unsent ≡ unsent.Nothing }
+        ensures several { (first : ℕ) → self.old.unsent ≡ unsent.Several first → ReactsTo C.represents (mutex_guard_value self.old.seated) (mutex_guard_value self.new.seated) Event.Tick self.old.replies self.new.replies }
+        ensures same { ((first : ℕ) → ¬ (self.old.unsent ≡ unsent.Several first)) → (self.new.seated ≡ self.old.seated) × (self.new.replies ≡ self.old.replies) }
+    {
+        let unsent = mem::replace(&mut self.unsent, Unsent::Nothing);
+        match unsent {
+            Unsent::Nothing => (),
+            Unsent::Last(_) => self.send_step(rt),
+            Unsent::Several(first) => {
+                if take_event(rt, &mut self.seated, Event::Tick, &mut self.replies) {
+                    self.send_entries(rt, first);
+                }
+            }
+        }
+    }
+
+    /// Takes the step on what was brought. Out of memory to decode a message, the message is lost.
+    pub(crate) fn take_brought<R: Wait>(&mut self, rt: &R, waiting: Waiting)
+        ensures { TakesBrought C.represents (mutex_guard_value self.old.seated) (mutex_guard_value self.new.seated) waiting self.old.replies self.new.replies }
+    {
+        match waiting {
+            Waiting::Tick => {
+                self.exit.node.tick_taken();
+                self.step(rt, Event::Tick);
+            }
+            Waiting::Message(bytes) => self.hear(rt, bytes),
+            Waiting::Ack => {
+                // An acknowledgement that comes from now on waits anew.
+                self.exit.node.ack.open();
+                if let Some(bytes) = self.exit.node.ack.take(rt) {
+                    self.hear(rt, bytes);
+                }
+            }
+            Waiting::Blank => {
+                if let Some(bytes) = self.exit.node.blank.take(rt) {
+                    self.hear(rt, bytes);
+                }
+                // This step answers the repetitions that came meanwhile.
+                self.exit.node.blank.open();
+            }
+        }
+    }
+
+    /// Takes the step on an encoded message.
+    fn hear<R: Wait>(&mut self, rt: &R, bytes: Bytes)
+        ensures { Hears C.represents (mutex_guard_value self.old.seated) (mutex_guard_value self.new.seated) bytes self.old.replies self.new.replies }
+    {
+        if let Ok(message) = decode(self.exit.alloc, bytes.as_slice()) {
+            self.step(rt, Event::Deliver(message));
+        }
+    }
+
+    /// Takes one step on a message or a tick, and sends what it sends.
+    fn step<R: Wait>(&mut self, rt: &R, event: Event)
+        requires { CanArrive event }
+        ensures { ReactsTo C.represents (mutex_guard_value self.old.seated) (mutex_guard_value self.new.seated) event self.old.replies self.new.replies }
+    {
+        if take_event(rt, &mut self.seated, event, &mut self.replies) {
+            self.post_step(rt);
+        }
+    }
+
+    /// Takes the step of a queued request. A closed node refuses it with `Closed`, since nobody
+    /// would answer it.
+    pub(crate) fn take_asked<R: Wait>(&mut self, rt: &R, asked: QueuedAsk)
+        ensures { TakesQueued C.represents (mutex_guard_value self.old.seated) (mutex_guard_value self.new.seated) asked.ask asked.pass asked.caller self.old.replies self.new.replies ⊎ RefusesQueued C.represents (mutex_guard_value self.old.seated) (mutex_guard_value self.new.seated) asked.ask asked.pass asked.caller self.old.replies self.new.replies ⊎ ClosesQueued (mutex_guard_value self.old.seated) (mutex_guard_value self.new.seated) asked.caller self.old.replies self.new.replies }
+    {
+        if self.exit.node.is_closed() {
+            refuse_asked(rt, asked, &mut self.replies);
+        } else if take_queued(rt, &mut self.seated, asked, &mut self.replies) {
+            self.post_step(rt);
+        }
+    }
+
+    /// Takes the step of the caller's own request. Returns the reply, or `None` if a completion
+    /// will come.
+    pub(crate) fn take_own<R: Wait>(&mut self, rt: &R, own: OwnAsk<'_>) -> Option<Outcome>
+        ensures { TakesOwn C.represents (mutex_guard_value self.old.seated) (mutex_guard_value self.new.seated) own.entry.ask own.entry.caller.pass own.entry.caller.token result self.old.replies self.new.replies ⊎ RefusesOwn C.represents (mutex_guard_value self.old.seated) (mutex_guard_value self.new.seated) own.entry.ask own.entry.caller.pass result self.old.replies self.new.replies ⊎ ClosesOwn (mutex_guard_value self.old.seated) (mutex_guard_value self.new.seated) result self.old.replies self.new.replies }
+    {
+        if self.exit.node.is_closed() {
+            drop(own);
+            return Some(Err(Refusal::Closed));
+        }
+        let (taken, reply) = take_own(rt, &mut self.seated, own, &mut self.replies);
+        if taken {
+            self.post_step(rt);
+        }
+        reply
+    }
+
+    /// Sends what the node's last step sends, after what is owed; or owes it, or holds it back.
+    fn post_step<R: Wait>(&mut self, rt: &R)
+        ensures last { OwesLast (cell_in self.old.seated) self.new.owed }
+        ensures still { OwesStill (cell_in self.old.seated) self.old.owed self.new.owed }
+        ensures holds { HoldsBack (cell_in self.old.seated) self.old.unsent self.new.unsent }
+        ensures seated { self.new.seated ≡ self.old.seated }
+        ensures replies { self.new.replies ≡ self.old.replies }
+    {
+        let unsent = self.unsent;
+        let cell = self.seated.desk.cell();
+        if let Some(position) = lone_entry_of(cell) {
+            self.unsent = unsent.with_entry(position);
+            return;
+        }
+        match lone_ack_of(cell) {
+            Some(ack) => self.owe(rt, ack),
+            None => self.send_step(rt),
+        }
+        self.unsent = unsent.after_another();
+    }
+
+    /// Sends all that the node's last step sends, after what is owed, so messages go out in the
+    /// order of the steps.
+    fn send_step<R: Wait>(&mut self, rt: &R)
+        ensures still { OwesStill (cell_in self.old.seated) self.old.owed self.new.owed }
+        ensures same { self.new.unsent ≡ self.old.unsent }
+        ensures seated { self.new.seated ≡ self.old.seated }
+        ensures replies { self.new.replies ≡ self.old.replies }
+    {
+        let sent = sent_by_node(self.exit.alloc, self.seated.desk.cell());
+        if sent.is_empty() {
+            return;
+        }
+        if let Some(ack) = self.owed.take() {
+            self.exit.acknowledge(rt, ack);
+        }
+        self.exit.post(rt, sent);
+    }
+
+    /// Sends the entries of the node's last step from this position on, and none of its other
+    /// messages.
+    fn send_entries<R: Wait>(&mut self, rt: &R, first: Seq)
+        ensures owed { self.new.owed ≡ self.old.owed }
+        ensures same { self.new.unsent ≡ self.old.unsent }
+        ensures seated { self.new.seated ≡ self.old.seated }
+        ensures replies { self.new.replies ≡ self.old.replies }
+    {
+        let sent = entries_by_node(self.exit.alloc, self.seated.desk.cell(), first);
+        self.exit.post(rt, sent);
+    }
+
+    /// Owes an acknowledgement in place of the one before, if there was one.
+    fn owe<R: Wait>(&mut self, rt: &R, ack: LoneAck)
+        ensures owed { self.new.owed ≡ Some ack }
+        ensures seated { self.new.seated ≡ self.old.seated }
+        ensures replies { self.new.replies ≡ self.old.replies }
+    {
+        if let Some(before) = self.owed.replace(ack) {
+            self.follow(rt, before);
+        }
+    }
+
+    /// Sends what was owed before, unless what is owed now makes it needless.
+    fn follow<R: Wait>(&self, rt: &R, before: LoneAck) {
+        let needed = match &self.owed {
+            Some(ack) => before.give_way(ack),
+            None => Some(before),
+        };
+        if let Some(ack) = needed {
+            self.exit.acknowledge(rt, ack);
+        }
+    }
+}

@@ -1,0 +1,17 @@
+//! A chain that runs: its routing table, batches of its nodes' steps, and the work of its threads.
+//! For `craq_workers`, which makes the threads.
+//! Code that runs in the programs.
+#![tactic(auto)]
+
+mod batch;
+mod chain;
+mod chain_thread;
+mod shared;
+mod unsent;
+mod wake_up;
+mod work;
+
+pub use chain::{Chain, Open, RoutingTable, refuse_queued};
+pub use shared::{Shared, Wakes};
+pub use wake_up::WakeUp;
+pub use work::{Worker, master_of, run_worker};

@@ -1,0 +1,74 @@
+//! `WakeUp`: the wake-up of the chain thread, rung by each thread that brings something to the
+//! chain. It costs a system call only if the thread sleeps.
+use std::sync::Wait;
+use std::sync::atomic::{AtomicBool, AtomicU64, Ordering};
+use std::thread::Parker;
+use std::time::Duration;
+
+/// The milliseconds for which the chain thread waits when it is out of memory.
+const PAUSE_MILLISECONDS: u64 = 10;
+
+/// Wakes the chain thread, and counts the changes of the chain's nodes.
+#[derive(Drop)]
+pub struct WakeUp {
+    parker: Parker,
+    /// The chain thread sleeps, or is about to.
+    idle: AtomicBool,
+    changes: AtomicU64,
+}
+
+impl WakeUp {
+    /// Makes the wake-up of a thread that does not sleep. Takes no memory.
+    pub fn new() -> Self {
+        WakeUp {
+            parker: Parker::new(),
+            idle: AtomicBool::new(false),
+            changes: AtomicU64::new(0),
+        }
+    }
+
+    /// Wakes the chain thread if it sleeps. What waits has to be there before.
+    pub(crate) fn ring(&self) {
+        if self.idle.load(Ordering::SeqCst) && self.idle.swap(false, Ordering::SeqCst) {
+            self.parker.unpark();
+        }
+    }
+
+    /// Tells the chain thread that the nodes of the chain have changed, and wakes it.
+    pub fn change(&self) {
+        self.changes.fetch_add(1, Ordering::SeqCst);
+        self.parker.unpark();
+    }
+
+    /// Returns how often the nodes have changed.
+    pub(crate) fn changes(&self) -> u64 {
+        self.changes.load(Ordering::SeqCst)
+    }
+
+    /// Returns whether the chain thread sleeps, or is about to.
+    pub(crate) fn is_idle(&self) -> bool {
+        self.idle.load(Ordering::SeqCst)
+    }
+
+    /// Marks the thread as about to sleep. It has to look once more before it does.
+    pub(crate) fn doze(&self) {
+        self.idle.store(true, Ordering::SeqCst);
+    }
+
+    /// Marks the thread as awake: it found something.
+    pub(crate) fn rouse(&self) {
+        self.idle.store(false, Ordering::SeqCst);
+    }
+
+    /// Waits `PAUSE_MILLISECONDS`, or less where the nodes of the chain change meanwhile.
+    pub(crate) fn pause<R: Wait>(&self, rt: &R) {
+        let pause = Duration::from_millis(PAUSE_MILLISECONDS);
+        self.parker.park_timeout(rt, pause);
+    }
+
+    /// Sleeps until the thread is woken.
+    pub(crate) fn sleep<R: Wait>(&self, rt: &R) {
+        self.parker.park(rt);
+        self.rouse();
+    }
+}

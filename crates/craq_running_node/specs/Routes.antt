@@ -1,0 +1,22 @@
+-- The items that wait at a node, and the routing entry of a node that is removed, or whose store closes.
+use Rattle.std.specs.Prelude.{◌≡◌, ℕ, ◌==◌, Bool, Option, None, Some, IfSome, if◌then◌else◌}
+use Rattle.craq_running_node.specs.declared.node.Delivery.{Delivery}
+use Rattle.craq_running_node.specs.declared.node.Delivery.TheVariants as brings
+use Rattle.craq_running_node.specs.declared.node.Waiting.{Waiting}
+use Rattle.craq_running_node.specs.declared.node.Waiting.TheVariants as waits
+use Rattle.craq_running_node.specs.declared.node.Route.{Route}
+
+-- a message waits as it was brought; of each other kind at most one item waits
+abbrev pub WaitsAs : Delivery → Option Waiting → Type 0
+WaitsAs (brings.Message bytes) waiting = waiting ≡ Some (waits.Message bytes)
+WaitsAs (brings.Ack bytes) waiting = IfSome waiting (λ (w : Waiting). w ≡ waits.Ack)
+WaitsAs (brings.Blank bytes) waiting = IfSome waiting (λ (w : Waiting). w ≡ waits.Blank)
+WaitsAs brings.Tick waiting = IfSome waiting (λ (w : Waiting). w ≡ waits.Tick)
+
+-- the senders of the node are dropped
+abbrev pub shut : {C : Type 0} → Route C → Route C
+shut route = record route { entrances = None }
+
+-- of the node of this id the senders are dropped, and the node too unless it is kept
+abbrev pub retired : {C : Type 0} → ℕ → Bool → Route C → Route C
+retired id keep route = if route.name.node == id then record route { node = (if keep then route.node else None); entrances = None } else route

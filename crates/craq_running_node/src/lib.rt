@@ -1,0 +1,21 @@
+//! A node that runs: its locked seat, its queues, its steps under the lock, and the replies of each
+//! step, which are sent once the lock is free; and the hooks round its work (`Gate`). For
+//! `craq_running_chain` and `craq_workers`; starts no threads.
+//! Code that runs in the programs.
+#![tactic(auto)]
+
+mod callers;
+mod gate;
+mod node;
+mod pending;
+mod replies;
+mod steps;
+
+pub use gate::{Gate, OpenGate, Work};
+pub use node::{Delivery, Entrances, Queues, Route, RunningNode, Waiting};
+pub use pending::Pending;
+pub use replies::{Replies, refuse_callers};
+pub use steps::{
+    AskingCaller, OwnAsk, QueuedAsk, SeatedNode, dismiss, entries_by_node, lone_ack_of,
+    lone_entry_of, refuse_asked, sent_by_book, sent_by_node, take_event, take_own, take_queued,
+};

@@ -1,0 +1,42 @@
+//! `Pending`: the last message of a class of which at most one waits at a node; for `RunningNode`
+//! and the batches of `craq_running_chain`.
+use bytes::Bytes;
+use std::sync::atomic::{AtomicBool, Ordering};
+use std::sync::{Mutex, Wait};
+
+/// A message that neighbours repeat. Of those that wait only the last is kept, since links may lose
+/// the others.
+#[derive(Drop)]
+pub struct Pending {
+    last: Mutex<Option<Bytes>>,
+    /// An item in the node's queue stands for the message.
+    waits: AtomicBool,
+}
+
+impl Pending {
+    /// Makes a place where nothing waits. Takes no memory.
+    pub(crate) fn new() -> Self {
+        Pending {
+            last: Mutex::new(None),
+            waits: AtomicBool::new(false),
+        }
+    }
+
+    /// Keeps an encoded message in place of the one before. Returns whether the queue needs an item
+    /// that stands for it.
+    pub(crate) fn put<R: Wait>(&self, rt: &R, bytes: Bytes) -> bool {
+        let before = self.last.lock(rt).replace(bytes);
+        drop(before);
+        !self.waits.swap(true, Ordering::SeqCst)
+    }
+
+    /// Takes the last message, if one came since the last call.
+    pub fn take<R: Wait>(&self, rt: &R) -> Option<Bytes> {
+        self.last.lock(rt).take()
+    }
+
+    /// Lets another message wait from now on.
+    pub fn open(&self) {
+        self.waits.store(false, Ordering::SeqCst);
+    }
+}

@@ -1,0 +1,126 @@
+//! `Replies`: the replies of a step, kept until its lock is free; for `steps` and for the batches of
+//! `craq_running_chain`.
+ghost use Rattle.std.specs.Prelude.{◌≡◌, ◌++◌, ◌∷◌, [], None, Some, IfSome, IsTrue, false};
+ghost use Rattle.craq_running_node.specs.Replies.{IsReplyTo, Keeps, caller_under, reply_to, without_caller};
+
+use crate::callers::{ReadyReply, WaitingCaller};
+use craq_completions::{CompletionSender, Outcome};
+use craq_names::{Refusal, Ticket};
+use craq_seat::{Caller, TicketQueue};
+use std::alloc::{AllocFailed, Global};
+use std::marker::Model;
+use std::sync::Wait;
+
+/// The room that is made for replies at the first one.
+const ROOM: usize = 16;
+
+/// The replies of a step, until they are sent. Neither it nor a reply has a drop, so each is sent.
+/// A contract sees them in order, and whether room was ever short.
+pub struct Replies {
+    waiting: Vec<ReadyReply>,
+    /// There was no room for a reply, which was sent at once.
+    short: bool,
+}
+
+impl Model for Replies {
+    ghost use Rattle.craq_running_node.specs.Replies.{PendingReplies};
+
+    ghost Value = { PendingReplies };
+
+    ghost view = { λ r. record { replies = r.waiting.items; short = r.short } };
+}
+
+impl Replies {
+    /// Makes an empty list of replies. Takes no memory.
+    pub fn new(alloc: Global) -> Self
+        ensures { result ≡ record { replies = []; short = false } }
+    {
+        Replies {
+            waiting: Vec::new(alloc),
+            short: false,
+        }
+    }
+
+    /// Returns the allocator of the list.
+    pub(crate) fn allocator(&self) -> Global {
+        *self.waiting.allocator()
+    }
+
+    /// Reserves room for replies at the first one. Out of memory there is none.
+    fn make_room(&mut self)
+        ensures { self.new ≡ self.old }
+    {
+        if self.waiting.is_empty() {
+            drop(self.waiting.reserve(ROOM));
+        }
+    }
+
+    /// Keeps a reply behind the others. Out of memory, gives it back and marks room as short.
+    fn keep(&mut self, reported: ReadyReply) -> Option<ReadyReply>
+        ensures kept { result ≡ None → (self.new.replies ≡ self.old.replies ++ reported ∷ []) × (self.new.short ≡ self.old.short) }
+        ensures back { IfSome result (λ t. (t ≡ reported) × (self.new.replies ≡ self.old.replies) × IsTrue self.new.short) }
+    {
+        match self.waiting.push(reported) {
+            Ok(()) => None,
+            Err(refused) => {
+                let AllocFailed { value } = refused;
+                self.short = true;
+                Some(value)
+            }
+        }
+    }
+
+    /// Adds a reply. If there is no room for it, sends it at once.
+    pub(crate) fn add<R: Wait>(&mut self, rt: &R, caller: WaitingCaller, outcome: Outcome)
+        requires { IsReplyTo caller.ticket outcome }
+        ensures { Keeps self.old (record { to = caller; outcome = outcome } ∷ []) self.new }
+    {
+        self.make_room();
+        if let Some(reported) = self.keep(ReadyReply::new(caller, outcome)) {
+            reported.tell(rt);
+        }
+    }
+
+    /// Adds the reply for the caller that waits under this ticket; it then waits no more. Drops the
+    /// outcome if no caller does.
+    pub(crate) fn add_under<R: Wait>(
+        &mut self,
+        rt: &R,
+        callers: &mut TicketQueue<Caller<CompletionSender>>,
+        ticket: Ticket,
+        outcome: Outcome,
+    )
+        requires { IsReplyTo (Some ticket) outcome }
+        ensures reported { Keeps self.old (reply_to (caller_under callers.old.items ticket) outcome) self.new }
+        ensures others { callers.new.items ≡ without_caller callers.old.items ticket }
+    {
+        match callers.take(ticket) {
+            Some(caller) => self.add(rt, WaitingCaller::waited(caller), outcome),
+            None => drop(outcome),
+        }
+    }
+
+    /// Sends all replies, in order.
+    pub fn tell<R: Wait>(self, rt: &R) {
+        let Replies { waiting, short: _ } = self;
+        let mut left = waiting.into_iter();
+        while let Some(reported) = left.next() {
+            reported.tell(rt);
+        }
+        left.destroy_empty();
+    }
+}
+
+/// Refuses these callers, in order: none of them waits any more.
+pub fn refuse_callers<R: Wait>(
+    rt: &R,
+    alloc: Global,
+    callers: Vec<Caller<CompletionSender>>,
+    refusal: &Refusal,
+) {
+    let mut replies = Replies::new(alloc);
+    for caller in callers {
+        replies.add(rt, WaitingCaller::waited(caller), Err(*refusal));
+    }
+    replies.tell(rt);
+}

@@ -1,7 +1,0 @@
-use Rattle.craq_workers.specs.Routes.{retired}
-use Rattle.craq_workers.proofs.Routes.{Changed}
-use Rattle.craq_workers.proofs.chain.RoutingTable.retire.Given as goal
-
--- the ways up to here are changed
-abbrev pub invariant-loop-route : goal.invariant-loop-route
-invariant-loop-route g l = Changed (retired l.id l.keep) l.route-index l.initial.route-items l.route-items

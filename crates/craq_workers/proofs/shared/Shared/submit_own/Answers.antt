@@ -1,6 +1,0 @@
-use Rattle.craq_workers.proofs.Asks.{put_in_hand}
-use Rattle.craq_workers.proofs.shared.Shared.submit_own.Goals as goal
-
-pub returns-then-in_place : goal.returns-then-in_place
-returns-then-in_place g c =
-    put_in_hand g.C.Core.represents c.args.self.now.chain_threads c.args.ask c.args.pass c.args.back.token c.serve_at.result c.in_hand.result c.in_hand.ensures.ok c.in_hand.ensures.err c.serve_at.ensures

@@ -13,7 +13,6 @@ mod numbers;
 mod runs;
 
 use command_line::{CoreKind, Nodes, Wanted, wanted_by};
-use craq_claim::{JsonError, explanation_of};
 use craq_cli::{
     BAD_INPUT, NO_MEMORY, report_failure, report_memory, report_no_text, report_words, words_of,
 };
@@ -21,7 +20,7 @@ use craq_compact_history::ListCore;
 use craq_epochs::MEMBER_LIMIT;
 use craq_names::{NodeId, Refusal};
 use craq_node::Core;
-use craq_play::{PlainCore, PlayFault, play};
+use craq_play::{JsonError, PlainCore, PlayFault, explanation_of, play};
 use craq_runs::Explanation;
 use craq_schedules::{draw, stops};
 use runs::{picture, verdict};

@@ -3,13 +3,12 @@
 use crate::moves::members;
 use craq_chain::ChainCore;
 use craq_check::check;
-use craq_claim::explanation_of;
 use craq_commands::ReadMode;
 use craq_explain::explain_run_of;
 use craq_model::{Answer, Ask, Out, Step};
 use craq_names::{ChainId, Items, Key, NodeId, ObjectId, Refusal, Ticket, Value, Version};
 use craq_node::Core;
-use craq_play::{PlayedChain, explanation_text};
+use craq_play::{PlayedChain, explanation_of, explanation_text};
 use craq_runs::{Explanation, Move, Run, Taken};
 use craq_schedules::replayed_chain;
 use craq_world::explain_run;

@@ -28,8 +28,8 @@ pub struct Case {
     members: &'static [u32],
 }
 
-/// Randomly generated scripts. Those of one node write so many objects that a state is sent in
-/// parts.
+/// Randomly generated scripts. Those of one node write more objects than one part of a state has,
+/// so it is sent in parts.
 pub static CASES: [Case; 4] = [
     Case {
         file: "random-1.script",

@@ -31,7 +31,7 @@ fn value(alloc: Global) -> ClientReply
 }
 
 impl Door for Answers {
-    ghost transition = { λ old message reply new. ⊤ };
+    ghost turn = { λ old message reply new. ⊤ };
 
     fn ask(&mut self, message: ClientMessage) -> ClientReply {
         self.asked = self.asked.saturating_add(1);

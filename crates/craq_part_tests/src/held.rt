@@ -79,7 +79,7 @@ fn settled_puts(alloc: Global, held: &mut HeldPast) -> Result<(), Refusal> {
     for _ in 0..PUTS {
         append(alloc, held)?;
         let end = held.len();
-        held.fold(end)?;
+        held.apply(end)?;
     }
     Ok(())
 }

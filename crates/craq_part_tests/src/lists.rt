@@ -90,8 +90,8 @@ fn print_all<R: Print>(rt: &R, list: &VersionList<Value>) -> io::Result<()> {
         None => print!(rt; "clean {clean}, none")?,
         Some((version, _)) => print!(rt; "clean {clean}, from {version}:")?,
     }
-    for value in list.held() {
-        let bytes = value.as_slice();
+    for index in 0..list.len() {
+        let bytes = list.held(index).as_slice();
         print!(rt; " {bytes:?}")?;
     }
     println!(rt; "")

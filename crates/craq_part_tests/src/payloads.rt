@@ -101,9 +101,9 @@ fn are_changes_sound(alloc: Global) -> bool {
     true
 }
 
-/// Prints payloads of either version, alone and of several requests or replies: their decoded forms,
-/// and whether they are encoded again as they were. Prints the refusals of payloads that do not
-/// decode.
+/// Prints payloads of either version, alone and of several requests or replies: their decoded
+/// forms, and whether they are encoded again as they were. Prints the refusals of payloads that do
+/// not decode.
 fn run_both_versions<R: AllocGlobal + Print>(rt: &R) -> io::Result<()> {
     let alloc = rt.alloc();
     for payload in [READ.as_slice(), &MANY[4..]] {

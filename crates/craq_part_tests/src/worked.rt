@@ -10,7 +10,7 @@ pub(crate) const WRITTEN: [u8; 23] = [
     0, 0, 0, 19, 1, 1, 0, 0, 0, 0, 0, 0, 0, 9, 1, 0, 0, 0, 0, 0, 0, 0, 1,
 ];
 
-/// The same put in a payload of version 2.
+/// The frame of that put in a payload of version 2.
 pub(crate) const SECOND_PUT: [u8; 42] = [
     0, 0, 0, 38, 2, 1, 0, 0, 0, 1, 0, 0, 0, 0, 0, 0, 0, 0, 0, 0, 0, 0, 0, 0, 0, 1, 0, 0, 0, 0, 0,
     0, 0, 1, 1, 0, 0, 1, 107, 0, 1, 97,

@@ -1,2 +1,4 @@
 mod Floats
 mod Lines
+mod Numbers
+mod Alone

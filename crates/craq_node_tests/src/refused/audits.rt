@@ -1,4 +1,4 @@
-//! Audits the nodes that took a script's moves; called by `routes`.
+//! Audits the nodes that took a script's moves; called by `ways`.
 use super::rows::{MOST_NODES, Row};
 use super::teller::{Call, TRIES, Teller};
 use crate::audits::cells_in;

@@ -1,5 +1,5 @@
 //! Serves a connection with a script's requests, by a handler that takes no memory; called by
-//! `routes` and `messages`.
+//! `ways` and `messages`.
 ghost use Rattle.std.specs.Prelude.{⊤};
 
 use super::rows::Row;
@@ -59,7 +59,7 @@ impl Write for Written {
 struct Answers;
 
 impl Door for Answers {
-    ghost transition = { λ old message reply new. ⊤ };
+    ghost turn = { λ old message reply new. ⊤ };
 
     fn ask(&mut self, message: ClientMessage) -> ClientReply {
         let is_update = matches!(&message, ClientMessage::Update { .. });

@@ -1,5 +1,5 @@
 //! Decodes the messages between nodes, the payloads of requests and replies, and a configuration;
-//! called by `routes`.
+//! called by `ways`.
 use super::payloads::{joined, of_version_2, replies_of, requests_of};
 use super::rows::{Row, chain};
 use super::stores::plan;

@@ -10,8 +10,8 @@ use craq_seat::CallReceipt;
 use std::alloc::{AllocError, Global};
 use std::sync::Wait;
 
-/// Replies that no script has, in version 1: the refusal that names node 1 as the head, and a status
-/// of the text `a`.
+/// Replies that no script has, in version 1: the refusal that names node 1 as the head, and a
+/// status of the text `a`.
 const OTHERS: [&[u8]; 2] = [&[1, 3, 9, 0, 0, 0, 0, 0, 0, 0, 1], &[1, 4, 0, 0, 0, 1, 97]];
 
 /// Copies bytes.
@@ -28,8 +28,8 @@ fn add(alloc: Global, payloads: &mut Vec<Vec<u8>>, payload: &[u8]) {
     }
 }
 
-/// Returns the payloads of the script's requests, in version 1. Leaves out one for which memory runs
-/// out.
+/// Returns the payloads of the script's requests, in version 1. Leaves out one for which memory
+/// runs out.
 pub fn requests_of(alloc: Global, row: &Row) -> Vec<Vec<u8>> {
     let mut payloads = Vec::new(alloc);
     for message in &messages_of(alloc, row) {

@@ -1,5 +1,5 @@
 //! Replays the events of each node on a new node, and on a new pending-call table; called by
-//! `routes`.
+//! `ways`.
 ghost use Rattle.std.specs.Prelude.{IfOk, IsTrue};
 ghost use Rattle.craq_node.specs.Represented.{CanArrive, CanOpen};
 

@@ -1,5 +1,5 @@
 //! Starts a store with a script's members, sends it the script's requests, and adds a node unless
-//! the chain is full; called by `routes`.
+//! the chain is full; called by `ways`.
 ghost use Rattle.std.specs.Prelude.{IfOk};
 ghost use Rattle.craq_place.specs.Plan.{IsPlan};
 

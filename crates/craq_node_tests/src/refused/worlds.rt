@@ -1,4 +1,4 @@
-//! Plays the moves in a world, one by one or all at once, and explains the run; called by `routes`.
+//! Plays the moves in a world, one by one or all at once, and explains the run; called by `ways`.
 use super::histories::{Entries, Kept, entries_in, tell_entries};
 use super::rows::{Row, chain};
 use super::teller::{Call, TRIES, Teller};

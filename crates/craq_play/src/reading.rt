@@ -1,11 +1,12 @@
-//! Reads a linearization witness: `explanation_of`, the only call of the crate, for `craq_lab`.
+//! Reads a linearization witness from JSON: `explanation_of`, for `craq_lab`, which checks it
+//! against a run.
 ghost use Rattle.std.specs.Prelude.{◌≡◌, map, Some, IfOk, IfSome};
 ghost use Rattle.serde_json.specs.View.{items_view, view};
 ghost use Rattle.serde_json.specs.Data.{Data, array};
 ghost use Rattle.serde_json.specs.Find.{get};
 ghost use Rattle.serde_json.specs.Read.{read};
 ghost use Rattle.craq_play.specs.Explained.{count_data, place_data};
-ghost use Rattle.craq_claim.specs.Reported.{IsReported};
+ghost use Rattle.craq_play.specs.Reported.{IsReported};
 
 use crate::{JsonError, Member};
 use craq_names::{Items, NodeId, Seq, Ticket};

@@ -1,7 +1,7 @@
 //! Defines the errors of reading a linearization witness; returned by `reading`, and reported by
 //! `craq_lab`.
 ghost use Rattle.std.specs.Prelude.{◌≡◌};
-ghost use Rattle.craq_claim.specs.declared.json_error.JsonError.TheVariants.{Memory};
+ghost use Rattle.craq_play.specs.declared.json_error.JsonError.TheVariants.{Memory};
 
 use std::alloc::AllocError;
 use std::fmt;

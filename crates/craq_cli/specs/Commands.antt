@@ -1,5 +1,5 @@
--- What the words of a command of `craq` ask for, or the first word that is not what is expected there. Places are counted from 0,
--- where the command's name stands. What single words spell is what they spell in scripts.
+-- The request that the words of a command of `craq` make, or the first word that is not the one expected there. Places are counted
+-- from 0, where the command's name stands. Single words are read as in scripts.
 use Rattle.std.specs.Prelude.{◌≡◌, ⊤, ℕ, ◌+◌, List, [], ◌∷◌, length, drop, codes, nat_le, Option, Some, None, Result, Ok, Err, slice_get, if◌then◌else◌}
 use Rattle.craq_names.specs.Limits.{greatest}
 use Rattle.craq_names.specs.Maps.{same_bytes}
@@ -29,18 +29,18 @@ abbrev pub ◌>>=◌ : {A B : Type 0} → Result A BadWord → (A → Result B B
 (Ok x) >>= f = f x
 (Err bad) >>= f = Err bad
 
--- what a function returned, seen by view, is what the words ask for or their first bad word, unless memory ran out
+-- the result of a function, seen by view, is the request of the words or their first bad word, unless it ran out of memory
 abbrev pub Reads : {X Y : Type 0} → (X → Y) → Result X UsageError → Result Y BadWord → Type 0
 Reads view (Ok x) asked = asked ≡ Ok (view x)
 Reads view (Err (unread.Bad bad)) asked = asked ≡ Err bad
 Reads view (Err unread.Memory) asked = ⊤
 
--- what stands at a place, or what was expected there
+-- returns the value at a place, or says what was expected there
 abbrev pub expect : {A : Type 0} → ℕ → Expected → Option A → Result A BadWord
 expect place expected (Some x) = Ok x
 expect place expected None = Err (record { place = place; expected = expected })
 
--- what the word spells, where there is one
+-- returns the value that the word encodes, if there is a word
 abbrev pub spelled : {A : Type 0} → (List ℕ → Option A) → Option (List ℕ) → Option A
 spelled read None = None
 spelled read (Some word) = read word
@@ -122,13 +122,13 @@ name_of word =
     else (if same_bytes word (codes "status") then Some names.Status
     else None))))))))
 
--- what a command of this name asks for
+-- returns the request of a command of this name
 abbrev pub request_as : ℕ → List (List ℕ) → Name → Result Request BadWord
 request_as node words (names.Update name) = command_update node name words
 request_as node words names.Read = read_of words
 request_as node words names.Status = at_end asks.Status words 1
 
--- what the words of a command ask of this node
+-- returns the request that the words of a command make at this node
 unfoldable pub request_of : ℕ → List (List ℕ) → Result Request BadWord
 request_of node words = word_at expected.Command name_of words 0 >>= request_as node words
 
@@ -146,7 +146,7 @@ watch_of words =
     if nat_le (length words) 1 then Ok None
     else (word_at expected.Seconds (number_between 1 86400) words 1 >>= λ seconds. at_end (Some seconds) words 2)
 
--- what `craq` is to do by the command's first word: no word asks for a prompt
+-- returns the task of `craq` by the command's first word: no word asks for a prompt
 abbrev pub task_by : ℕ → List (List ℕ) → Option (List ℕ) → Result Task BadWord
 task_by node words None = Ok tasks.Shell
 task_by node words (Some word) =
@@ -155,6 +155,6 @@ task_by node words (Some word) =
     else (if same_bytes word (codes "bench") then (load_of words >>= λ load. Ok (tasks.Bench load))
     else (request_of node words >>= λ request. Ok (tasks.Ask request))))
 
--- what `craq` is to do by all words of the command
+-- returns the task of `craq` by all words of the command
 unfoldable pub task_of : ℕ → List (List ℕ) → Result Task BadWord
 task_of node words = task_by node words (slice_get words 0)

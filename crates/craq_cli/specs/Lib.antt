@@ -1,4 +1,9 @@
 pub mod Commands
+pub mod Control
+pub mod ControlNode
 pub mod Lines
 pub mod Numbers
 pub mod Options
+pub mod VerbItems
+pub mod VerbOptions
+pub mod Verbs

@@ -1,4 +1,4 @@
--- What holds of each command line that `craqd` serves by.
+-- Limits of each command line that `craqd` serves by.
 use Rattle.std.specs.Prelude.{◌≤◌}
 use Rattle.craq_cli.specs.declared.server.Line.{Line}
 

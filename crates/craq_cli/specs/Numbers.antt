@@ -1,4 +1,4 @@
--- Numbers on command lines, spelled as in scripts.
+-- Numbers on command lines, written as in scripts.
 use Rattle.std.specs.Prelude.{ℕ, List, Option, Some, None, nat_le, if◌then◌else◌}
 use Rattle.craq_script.specs.Words.{number_up_to}
 

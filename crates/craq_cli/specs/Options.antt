@@ -54,7 +54,7 @@ numbers_of found = do
   most_leap ← option_number options.MostLeap found
   Ok (record { connections = connections; threads = threads; most = most; idle = idle; most_leap = most_leap })
 
--- what a function returned is what the options have, or the option at fault, unless memory ran out
+-- the result of a function is the value in the options, or the option at fault, unless it ran out of memory
 abbrev pub Has : {X : Type 0} → Result X Unfit → Result X NumberOption → Type 0
 Has (Ok x) wanted = wanted ≡ Ok x
 Has (Err (unfit.Option option)) wanted = wanted ≡ Err option

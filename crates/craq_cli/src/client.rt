@@ -1,8 +1,9 @@
 //! The command line of `craq`: its options, its help, and what its command is to do; called by the
 //! main of `craq`.
-use crate::commands::task_of;
+use crate::commands::{is_command, task_of};
 use crate::numbers::number_between;
-use crate::{Task, UsageError, VERSION};
+use crate::verb_options::{BadOption, CheckedOption, FLAGS, VALUED, mode_in, number_in};
+use crate::{Task, UsageError, VERSION, ValueForm, VerbLine, VerbOptions, is_verb};
 use clap::error::ErrorKind;
 use clap::{Arg, ArgAction, ArgMatches, Command, Error};
 use craq_names::{NodeId, Pass, Stamp};
@@ -12,17 +13,17 @@ use std::alloc::{AllocError, Global};
 /// The command line of `craq`, read.
 #[derive(Debug, Drop)]
 pub struct CallLine<'a> {
-    /// The address of the server: a host and a port.
-    pub address: &'a str,
-    /// The node that is asked.
-    pub node: NodeId,
+    /// The address of the server, a host and a port; `None` if `--connect` was not given.
+    pub address: Option<&'a str>,
+    /// The node that is asked; `None` if `--node` was not given. A task `Ask` always has one.
+    pub node: Option<NodeId>,
     /// The pass that is shown: the largest stamp that the client has seen.
     pub pass: Pass,
     /// The task.
-    pub task: Task,
+    pub task: Task<'a>,
 }
 
-/// Why a command line of `craq` has no task.
+/// Reasons why a command line of `craq` has no task.
 #[derive(Debug, Drop)]
 pub enum CommandFault {
     /// clap's error: the options are wrong, or ask for help or the version. Its kind is
@@ -50,12 +51,26 @@ const ABOUT: &str = "Asks a server of a replicated object store, and prints its 
 
 const LONG_ABOUT: &str = "Asks a server of a replicated object store (craqd), and prints its answer.
 
-One command is sent, and one answer printed; after it a line `pass P` with the pass to show
-from now on. A strong read that shows the pass of an earlier strong answer (the reply to an
-update, or a strong read) is not older than it.
+The verbs set to health need no option: they find the head, number each update, retry, and print
+what a person wants to see. The commands put to status ask one node exactly one request.
 Without a command there is a prompt, which shows the largest pass by itself.";
 
-const HELP: &str = "COMMAND and its words:
+const HELP: &str = "VERB and its words:
+  set KEY VALUE              write the value; VALUE - is read from standard input
+  get KEY                    print the value as it is
+  cas KEY VERSION VALUE      write the value if the object has this version; 0 is never written
+  add, sub KEY [BY]          add BY, or 1, to the number in the object's 8 bytes, or subtract it
+  txn ITEM ..                compare, read and write at one moment: an ITEM is c:KEY:VERSION, r:KEY
+                             or w:KEY:VALUE, with a KEY without a colon
+  members                    print each chain with its members, head first
+  health                     time an update through the whole chain, which writes nothing, and a
+                             strong read at each member
+KEY is any 1 to 128 bytes, VALUE any 0 to 4096. Options stand before or after these words; -- ends
+them. An update goes to the head, and a get to any member, unless --node names one. After a lost
+connection or a passing refusal the request is retried, an update under its number, so that it is
+done once. If it may have been done all the same, standard error has the command that asks it again.
+
+COMMAND and its words:
   put CLIENT NUMBER OBJECT VALUE           give the object a value
   tas CLIENT NUMBER OBJECT VERSION VALUE   the same, if the object has the version
   append, prepend CLIENT NUMBER OBJECT VALUE   join the value to the end or the front
@@ -64,38 +79,49 @@ const HELP: &str = "COMMAND and its words:
                                            reads, w:OBJECT:VALUE writes
   read MODE OBJECT                         MODE is strong, eventual, or bounded:K versions ahead
   status                                   the chains, their epochs and members, as JSON
-  shell                                    a prompt that takes these commands, and `help`
-  watch [SECONDS]                          the chains, printed again whenever they change
-  bench CONNECTIONS SECONDS READS          a load of small puts and strong reads, READS of 100
-                                           requests being reads, and what came of it
-OBJECT is KEY, on chain 0, or CHAIN/KEY. NUMBER counts the updates of a client on a chain from 1:
+A command needs --connect and --node, and all words after it are its own. OBJECT is KEY of letters,
+digits, _ and -, on chain 0, or CHAIN/KEY. NUMBER counts the updates of a client on a chain from 1:
 asked again under one of its 8 largest numbers, an update is not made again but answered again. A
-VALUE is text, or 0x and hexadecimal digits. Updates are asked at the first node of a chain, its head.
+VALUE is text, or 0x and hexadecimal digits. Updates are asked at the first node of a chain, its
+head. After the answer comes a line `pass P` with the pass to show from now on. A strong read that
+shows the pass of an earlier strong answer (the reply to an update, or a strong read) is not older
+than it.
+
+TOOL and its words:
+  shell                      a prompt that takes verbs and commands, and `help`
+  watch [SECONDS]            the chains, printed again whenever they change
+  bench CONNECTIONS SECONDS READS   a load of small puts and strong reads, READS of 100 requests
+                             being reads, and what came of it
 
 Printed:
   written V          the update wrote version V
   mismatch V         the object has version V, and nothing was written
   toolong, notanumber, overflow, underflow    nothing was written
-  done V:VALUE ..    the transaction was made; what it read
+  done V:VALUE ..    the transaction was made; what it read (of txn: a line `V VALUE` for each read)
   comparefailed I    compare I (from 0) failed, and nothing was written
-  stale N            nothing was done now: NUMBER is below the 8 largest that were done, and N is the
-                     largest; whether it was done before is not known any more
+  stale N            nothing was done now: NUMBER is below the 8 largest that were done, and N is
+                     the largest; whether it was done before is not known any more
   read V VALUE       the object's version, 0 where it is absent, and its value
   refused N          nothing was done; but after 11, 14 and 27 an update may have been done: ask it
-                     again under its NUMBER. 1 a key of more than 128 bytes, 2 a value of more than
-                     4096, 3 more than 16 items in a list, 4 no item, 5 an object twice in a list,
-                     6 number 0, 7 no such chain, 8 two chains, 9 not the head, which follows,
-                     10 not ready, 11 stopped, 12 too many requests wait, 13 a counter at its
-                     greatest number (with --most-leap also a pass far above any that the server
-                     sent), 14 the server is out of memory, 15 bytes that are no request, 16 a
-                     request that is too long, 23 no such node, 27 the server closes
+                     again under its NUMBER. Standard error has the refusal in words. 1 a key of
+                     more than 128 bytes, 2 a value of more than 4096, 3 more than 16 items in a
+                     list, 4 no item, 5 an object twice in a list, 6 number 0, 7 no such chain, 8
+                     two chains, 9 not the head, which follows, 10 not ready, 11 stopped, 12 too
+                     many requests wait, 13 a counter at its greatest number (with --most-leap also
+                     a pass far above any that the server sent), 14 the server is out of memory, 15
+                     bytes that are no request, 16 a request that is too long, 23 no such node, 27
+                     the server closes
 
-Status: 0 after an answer; 1 with `cannot print` where the output takes no text, or `cannot
-read` where the prompt's input gives none; 2 after a bad command line, and with `script line 1`
-and the word that was expected after a bad command; 3 with `refused N`, or with `no memory`; 4 with `connection` where there is none, or
-it broke.
+Status: 0 after an answer; 1 with `cannot print` where the output takes no text, or `cannot read`
+where the input gives none; 2 after a bad command line, and with `script line 1` and the word that
+was expected after a bad command; 3 with `refused N`, or with `no memory`; 4 with `connection` where
+there is none, or it broke. A verb ends with 5 after mismatch, comparefailed, toolong, notanumber,
+overflow, underflow and stale, since nothing was written, and with 6 after a get of an object that
+was never written.
 
 Examples:
+  craq set colour blue
+  craq get colour --node 3 --json
   craq --connect 127.0.0.1:7000 --node 1 put 1 1 colour blue
   craq --connect 127.0.0.1:7000 --node 1 tas 1 2 colour 1 green
   craq --connect 127.0.0.1:7000 --node 1 append 1 3 colour ish
@@ -106,6 +132,17 @@ Examples:
   craq --connect 127.0.0.1:7000 --node 3 --pass 9 read strong colour
   craq --connect 127.0.0.1:7000 --node 3 status";
 
+/// The form of a command line, by its first word that is no option.
+#[derive(Clone, Copy, Debug, PartialEq, Eq)]
+enum LineForm {
+    /// A command of the specification, which needs `--connect` and `--node`.
+    Command,
+    /// A verb for people, or a word that is neither a command nor a tool.
+    Verb,
+    /// A prompt, a watch or a load.
+    Tool,
+}
+
 /// Makes an option with a value.
 fn option_arg<'a>(alloc: Global, name: &'a str, value: &'a str, help: &'a str) -> Arg<'a> {
     Arg::new(alloc, name)
@@ -113,6 +150,55 @@ fn option_arg<'a>(alloc: Global, name: &'a str, value: &'a str, help: &'a str) -
         .value_name(value)
         .action(ArgAction::Set)
         .help(help)
+}
+
+/// Makes an option without a value.
+fn flag_arg<'a>(alloc: Global, name: &'a str, help: &'a str) -> Arg<'a> {
+    Arg::new(alloc, name)
+        .long(name)
+        .action(ArgAction::SetTrue)
+        .help(help)
+}
+
+/// Makes the command with its texts and no argument.
+fn named_command<'a>(alloc: Global) -> Command<'a> {
+    Command::new(alloc, "craq")
+        .about(ABOUT)
+        .version(VERSION)
+        .long_about(LONG_ABOUT)
+        .after_help(HELP)
+}
+
+/// Makes the argument of all words that are no option.
+fn words_arg<'a>(alloc: Global) -> Arg<'a> {
+    Arg::new(alloc, "COMMAND")
+        .num_args(0..)
+        .help("What is asked, and its words")
+}
+
+/// Makes the command `craq [OPTION ..]` with the options of verbs for people, help and version.
+fn open_options<'a>(alloc: Global) -> Result<Command<'a>, AllocError> {
+    let mut command = named_command(alloc);
+    for (name, value, help) in VALUED {
+        command = command.arg(option_arg(alloc, name, value, help))?;
+    }
+    for (name, help) in FLAGS {
+        command = command.arg(flag_arg(alloc, name, help))?;
+    }
+    Ok(command)
+}
+
+/// Makes the command whose options stand anywhere: `craq [OPTION ..] [COMMAND ..] [OPTION ..]`.
+fn open_command<'a>(alloc: Global) -> Result<Command<'a>, AllocError> {
+    open_options(alloc)?.arg(words_arg(alloc))
+}
+
+/// Makes the command whose words are all behind its options: `craq [OPTION ..] [COMMAND ..]`.
+fn first_command<'a>(alloc: Global) -> Result<Command<'a>, AllocError> {
+    let words = words_arg(alloc)
+        .trailing_var_arg(true)
+        .allow_hyphen_values(true);
+    open_options(alloc)?.arg(words)
 }
 
 /// Makes the command with `--connect ADDRESS --node N [--pass P]`, help and version.
@@ -125,12 +211,7 @@ fn command_with_options<'a>(alloc: Global) -> Result<Command<'a>, AllocError> {
         "P",
         "The largest pass that was printed so far",
     );
-    let command = Command::new(alloc, "craq")
-        .about(ABOUT)
-        .version(VERSION)
-        .long_about(LONG_ABOUT)
-        .after_help(HELP)
-        .arg(connect.required(true))?;
+    let command = named_command(alloc).arg(connect.required(true))?;
     let command = command.arg(node.required(true))?;
     command.arg(pass.default_value("0"))
 }
@@ -159,12 +240,12 @@ fn wrong_words(command: &mut Command<'_>, reported: &str) -> Result<CommandFault
 }
 
 /// Returns the task of a command's words: a prompt where there are none.
-fn task_in(
+fn task_in<'a>(
     alloc: Global,
     command: &mut Command<'_>,
     node: NodeId,
     words: Option<&[&str]>,
-) -> Result<Task, CommandFault> {
+) -> Result<Task<'a>, CommandFault> {
     let Some(words) = words else {
         return Ok(Task::Shell);
     };
@@ -179,25 +260,165 @@ fn task_in(
     }
 }
 
+/// Returns the form of a command line by its first word that is no option. Without one it is a
+/// prompt, which needs `--connect`. An unknown word is taken for a verb unless the line names a
+/// server and a node, as that of a command.
+fn form_of(matches: &ArgMatches<'_>) -> LineForm {
+    let first = match matches.get_strs("COMMAND") {
+        Some(words) => words.first().copied(),
+        None => None,
+    };
+    let has_place = matches.contains_id("connect") && matches.contains_id("node");
+    match first {
+        Some("shell" | "watch" | "bench") => LineForm::Tool,
+        Some(word) if is_verb(word) => LineForm::Verb,
+        Some(word) if !has_place && !is_command(word) => LineForm::Verb,
+        None if matches.contains_id("connect") => LineForm::Tool,
+        _ => LineForm::Command,
+    }
+}
+
+/// Returns the form of these words.
+fn form_of_words(alloc: Global, words: &[&str]) -> Result<LineForm, CommandFault> {
+    let mut command = first_command(alloc)?;
+    let matches = command.try_get_matches_from_mut(words)?;
+    Ok(form_of(&matches))
+}
+
+/// Returns the options of a verb for people.
+fn verb_options<'a>(matches: &ArgMatches<'a>) -> Result<VerbOptions<'a>, BadOption> {
+    let mode = mode_in(matches)?;
+    let client = number_in(matches, CheckedOption::Client)?;
+    let number = number_in(matches, CheckedOption::Number)?;
+    let form = if matches.get_flag("hex") {
+        ValueForm::Hexadecimal
+    } else {
+        ValueForm::Bytes
+    };
+    Ok(VerbOptions {
+        chain: matches.get_str("chain"),
+        mode,
+        client,
+        number,
+        form,
+        is_decimal: matches.get_flag("decimal"),
+        is_json: matches.get_flag("json"),
+        prints_pass: matches.get_flag("print-pass"),
+    })
+}
+
+/// Returns the node and the pass of a command line.
+fn place_of(matches: &ArgMatches<'_>) -> Result<(Option<NodeId>, Pass), BadOption> {
+    let node = match number_in(matches, CheckedOption::Node)? {
+        Some(node) => Some(NodeId::new(node as u32)),
+        None => None,
+    };
+    let pass = number_in(matches, CheckedOption::Pass)?.unwrap_or(0);
+    Ok((node, Pass::of(Stamp::new(pass))))
+}
+
+/// Returns the fault of an option, with clap's error about it.
+fn option_fault(command: &mut Command<'_>, bad: BadOption) -> CommandFault {
+    let BadOption::Value(option) = bad else {
+        return CommandFault::Memory;
+    };
+    match command.error(ErrorKind::ValueValidation, option.reported()) {
+        Ok(error) => CommandFault::Words(error),
+        Err(AllocError) => CommandFault::Memory,
+    }
+}
+
+/// Returns a copy of the words. Fails only when out of memory.
+fn copied_words<'a>(alloc: Global, words: Option<&[&'a str]>) -> Result<Vec<&'a str>, AllocError> {
+    match words {
+        Some(words) => Ok(Vec::from_slice(alloc, words)?),
+        None => Ok(Vec::new(alloc)),
+    }
+}
+
+/// Parses a command line with the words of a command of the specification.
+fn read_command<'a>(alloc: Global, words: &'a [&'a str]) -> Result<CallLine<'a>, CommandFault> {
+    let mut command = whole_command(alloc)?;
+    let matches = command.try_get_matches_from_mut(words)?;
+    let (Some(address), Some((node, pass))) = (matches.get_str("connect"), numbers_in(&matches))
+    else {
+        let reported = "N and P are numbers of 32 and of 64 bits in decimal digits";
+        return Err(wrong_words(&mut command, reported)?);
+    };
+    Ok(CallLine {
+        address: Some(address),
+        node: Some(node),
+        pass,
+        task: task_in(alloc, &mut command, node, matches.get_strs("COMMAND"))?,
+    })
+}
+
+/// Returns the line of a tool.
+fn tool_line<'a>(
+    alloc: Global,
+    command: &mut Command<'_>,
+    matches: &ArgMatches<'a>,
+    place: (Option<NodeId>, Pass),
+) -> Result<CallLine<'a>, CommandFault> {
+    let (node, pass) = place;
+    Ok(CallLine {
+        address: matches.get_str("connect"),
+        node,
+        pass,
+        task: task_in(alloc, command, NodeId::new(0), matches.get_strs("COMMAND"))?,
+    })
+}
+
+/// Parses a command line with the words of a tool.
+fn read_tool<'a>(alloc: Global, words: &'a [&'a str]) -> Result<CallLine<'a>, CommandFault> {
+    let mut command = open_command(alloc)?;
+    let matches = command.try_get_matches_from_mut(words)?;
+    match place_of(&matches) {
+        Ok(place) => tool_line(alloc, &mut command, &matches, place),
+        Err(bad) => Err(option_fault(&mut command, bad)),
+    }
+}
+
+/// Returns the line of a verb for people.
+fn verb_line<'a>(alloc: Global, matches: &ArgMatches<'a>) -> Result<CallLine<'a>, BadOption> {
+    let (node, pass) = place_of(matches)?;
+    let options = verb_options(matches)?;
+    let Ok(words) = copied_words(alloc, matches.get_strs("COMMAND")) else {
+        return Err(BadOption::Memory);
+    };
+    Ok(CallLine {
+        address: matches.get_str("connect"),
+        node,
+        pass,
+        task: Task::Verb(VerbLine { words, options }),
+    })
+}
+
 impl<'a> CallLine<'a> {
-    /// Reads a command line, the program's own name first. Numbers are encoded as in scripts.
+    /// Parses a command line with the words of a verb for people, the program's own name first. The
+    /// words of the verb are not checked yet: `verb_of` parses them.
+    ///
+    /// `Words` where clap finds a fault in the options, where the value of one is outside its
+    /// bounds, or where the words ask for help or the version; `Memory` when out of memory.
+    pub fn read_verb(alloc: Global, words: &'a [&'a str]) -> Result<Self, CommandFault> {
+        let mut command = open_command(alloc)?;
+        let matches = command.try_get_matches_from_mut(words)?;
+        match verb_line(alloc, &matches) {
+            Ok(line) => Ok(line),
+            Err(bad) => Err(option_fault(&mut command, bad)),
+        }
+    }
+
+    /// Parses a command line, the program's own name first. Numbers are encoded as in scripts.
     ///
     /// `Words` where clap finds a fault in the options, or where the words ask for help or the
     /// version; `Command` where the words of the command fit no script line; `Memory` where a
     /// growth was refused.
     pub fn read(alloc: Global, words: &'a [&'a str]) -> Result<Self, CommandFault> {
-        let mut command = whole_command(alloc)?;
-        let matches = command.try_get_matches_from_mut(words)?;
-        let (Some(address), Some((node, pass))) = (matches.get_str("connect"), numbers_in(&matches))
-        else {
-            let reported = "N and P are numbers of 32 and of 64 bits in decimal digits";
-            return Err(wrong_words(&mut command, reported)?);
-        };
-        Ok(CallLine {
-            address,
-            node,
-            pass,
-            task: task_in(alloc, &mut command, node, matches.get_strs("COMMAND"))?,
-        })
+        match form_of_words(alloc, words)? {
+            LineForm::Command => read_command(alloc, words),
+            LineForm::Verb => CallLine::read_verb(alloc, words),
+            LineForm::Tool => read_tool(alloc, words),
+        }
     }
 }

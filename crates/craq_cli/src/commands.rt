@@ -1,5 +1,5 @@
 //! Reads the words of a command: its task, or the first wrong word; for `client` and for a prompt.
-ghost use Rattle.std.specs.Prelude.{◌≡◌, map, drop};
+ghost use Rattle.std.specs.Prelude.{◌≡◌, is_some, map, drop};
 ghost use Rattle.craq_script.specs.Words.{item_of};
 ghost use Rattle.craq_cli.specs.Commands.{Reads, expect, word_at, object_and_value, object_and_number, test_and_set_of, items_from, change_of, command_update, read_of, name_of, request_of, load_of, watch_of, task_of};
 
@@ -29,7 +29,7 @@ enum Name {
     Status,
 }
 
-/// OBJECT VALUE, behind CLIENT NUMBER.
+/// Reads OBJECT VALUE, behind CLIENT NUMBER.
 #[tactic(auto, unfolding(crate::specs::Commands::object_and_value))]
 fn object_and_value(alloc: Global, words: &[&str]) -> Result<(ScriptObject, Items<u8>), UsageError>
     ensures { Reads (λ x. x) result (object_and_value (map (λ w. w.now) words.now)) }
@@ -39,7 +39,7 @@ fn object_and_value(alloc: Global, words: &[&str]) -> Result<(ScriptObject, Item
     at_end((object, value), words, 5)
 }
 
-/// OBJECT BY, behind CLIENT NUMBER.
+/// Reads OBJECT BY, behind CLIENT NUMBER.
 #[tactic(auto, unfolding(crate::specs::Commands::object_and_number))]
 fn object_and_number(alloc: Global, words: &[&str]) -> Result<(ScriptObject, u64), UsageError>
     ensures { Reads (λ x. x) result (object_and_number (map (λ w. w.now) words.now)) }
@@ -49,7 +49,7 @@ fn object_and_number(alloc: Global, words: &[&str]) -> Result<(ScriptObject, u64
     at_end((object, by), words, 5)
 }
 
-/// OBJECT VERSION VALUE, behind CLIENT NUMBER.
+/// Reads OBJECT VERSION VALUE, behind CLIENT NUMBER.
 #[tactic(auto, unfolding(crate::specs::Commands::test_and_set_of))]
 fn test_and_set_of(alloc: Global, words: &[&str]) -> Result<ScriptCommand, UsageError>
     ensures { Reads (λ x. x) result (test_and_set_of (map (λ w. w.now) words.now)) }
@@ -69,7 +69,7 @@ fn test_and_set_of(alloc: Global, words: &[&str]) -> Result<ScriptCommand, Usage
     )
 }
 
-/// The item that the word at a place spells.
+/// Reads the item that the word at a place names.
 fn item_at(alloc: Global, word: &str, place: usize) -> Result<MiniItem, UsageError>
     ensures { Reads (λ x. x) result (expect place Expected.Item (item_of word.now)) }
 {
@@ -80,7 +80,7 @@ fn item_at(alloc: Global, word: &str, place: usize) -> Result<MiniItem, UsageErr
     }
 }
 
-/// An item of each word, the first of which stands at place 3.
+/// Reads an item from each word, the first of which stands at place 3.
 fn items_of(alloc: Global, words: &[&str]) -> Result<Items<MiniItem>, UsageError>
     ensures { Reads (λ x. x) result (items_from 3 (map (λ w. w.now) words.now)) }
 {
@@ -92,14 +92,14 @@ fn items_of(alloc: Global, words: &[&str]) -> Result<Items<MiniItem>, UsageError
     Ok(Items::of(items))
 }
 
-/// The words from place 3 on.
+/// Returns the words from place 3 on.
 fn after_number<'a, 'b>(words: &'b [&'a str]) -> &'b [&'a str]
     ensures { map (λ w. w.now) result.now ≡ drop 3 (map (λ w. w.now) words.now) }
 {
     if words.len() <= 3 { &[] } else { &words[3..] }
 }
 
-/// The change of an update, behind CLIENT NUMBER.
+/// Reads the change of an update, behind CLIENT NUMBER.
 #[tactic(auto, unfolding(crate::specs::Commands::change_of))]
 fn change_of(alloc: Global, name: UpdateName, words: &[&str]) -> Result<ScriptCommand, UsageError>
     ensures { Reads (λ x. x) result (change_of name (map (λ w. w.now) words.now)) }
@@ -133,7 +133,7 @@ fn change_of(alloc: Global, name: UpdateName, words: &[&str]) -> Result<ScriptCo
     }
 }
 
-/// CLIENT NUMBER and a change, asked of this node.
+/// Reads CLIENT NUMBER and a change, and returns the update for this node.
 #[tactic(auto, unfolding(crate::specs::Commands::command_update))]
 fn command_update(
     alloc: Global,
@@ -154,7 +154,7 @@ fn command_update(
     }))
 }
 
-/// MODE OBJECT.
+/// Reads MODE OBJECT.
 #[tactic(auto, unfolding(crate::specs::Commands::read_of))]
 fn read_of(alloc: Global, words: &[&str]) -> Result<Request, UsageError>
     ensures { Reads (λ x. x) result (read_of (map (λ w. w.now) words.now)) }
@@ -164,7 +164,7 @@ fn read_of(alloc: Global, words: &[&str]) -> Result<Request, UsageError>
     at_end(Request::Read { mode, object }, words, 3)
 }
 
-/// The command of this name.
+/// Returns the command of this name.
 #[tactic(auto, unfolding(crate::specs::Commands::name_of))]
 fn name_of(word: &[u8]) -> Option<Name>
     ensures { result ≡ name_of word.now }
@@ -199,7 +199,14 @@ fn name_of(word: &[u8]) -> Option<Name>
     None
 }
 
-/// The command whose name stands at place 0.
+/// Returns true if the word is the name of a command.
+pub(crate) fn is_command(word: &str) -> bool
+    ensures { result ≡ is_some (name_of word.now) }
+{
+    name_of(word.as_bytes()).is_some()
+}
+
+/// Returns the command whose name stands at place 0.
 fn name_at(words: &[&str]) -> Result<Name, UsageError>
     ensures { Reads (λ x. x) result (word_at Expected.Command name_of (map (λ w. w.now) words.now) 0) }
 {
@@ -213,7 +220,7 @@ fn name_at(words: &[&str]) -> Result<Name, UsageError>
 }
 
 /// Returns the request of a command to this node: its name, and what that name asks for. Numbers,
-/// objects, values, modes and items are spelled as in scripts; a value may have any characters.
+/// objects, values, modes and items are written as in scripts; a value may have any characters.
 ///
 /// `Bad` with the first word that is not what is expected there, or is missing; `Memory` where a
 /// growth was refused.
@@ -228,7 +235,7 @@ pub fn request_of(alloc: Global, node: NodeId, words: &[&str]) -> Result<Request
     }
 }
 
-/// CONNECTIONS SECONDS READS.
+/// Reads CONNECTIONS SECONDS READS.
 #[tactic(auto, unfolding(crate::specs::Commands::load_of))]
 fn load_of(words: &[&str]) -> Result<Load, UsageError>
     ensures { Reads (λ x. x) result (load_of (map (λ w. w.now) words.now)) }
@@ -244,7 +251,7 @@ fn load_of(words: &[&str]) -> Result<Load, UsageError>
     at_end(load, words, 4)
 }
 
-/// Nothing, or SECONDS.
+/// Reads SECONDS, or nothing.
 #[tactic(auto, unfolding(crate::specs::Commands::watch_of))]
 fn watch_of(words: &[&str]) -> Result<Option<u64>, UsageError>
     ensures { Reads (λ x. x) result (watch_of (map (λ w. w.now) words.now)) }
@@ -261,7 +268,11 @@ fn watch_of(words: &[&str]) -> Result<Option<u64>, UsageError>
 /// `Bad` with the first word that is not what is expected there, or is missing; `Memory` where a
 /// growth was refused.
 #[tactic(auto, unfolding(crate::specs::Commands::task_of))]
-pub(crate) fn task_of(alloc: Global, node: NodeId, words: &[&str]) -> Result<Task, UsageError>
+pub(crate) fn task_of<'a>(
+    alloc: Global,
+    node: NodeId,
+    words: &[&str],
+) -> Result<Task<'a>, UsageError>
     ensures { Reads (λ x. x) result (task_of node (map (λ w. w.now) words.now)) }
 {
     let Some(word) = bytes_at(words, 0) else {

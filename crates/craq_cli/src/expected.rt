@@ -15,7 +15,7 @@ pub enum Expected {
     Number,
     /// The version of an object.
     Version,
-    /// By how much a counter rises or falls.
+    /// The number by which a counter rises or falls.
     By,
     /// An object.
     Object,
@@ -33,6 +33,20 @@ pub enum Expected {
     Reads,
     /// The id of a node.
     Node,
+    /// The verb of a line of `craqd --control`.
+    ControlVerb,
+    /// A chain and the id of a node.
+    ChainNode,
+    /// The word that has a node stopped in any case.
+    Force,
+    /// The name of a verb for people.
+    Verb,
+    /// A key of any bytes.
+    Key,
+    /// A value of a verb for people.
+    VerbValue,
+    /// An item of a transaction with a key of any bytes.
+    VerbItem,
     /// No word.
     End,
 }
@@ -46,7 +60,7 @@ pub struct BadWord {
     pub expected: Expected,
 }
 
-/// Why words are no command.
+/// Reasons why words are no command.
 #[derive(Clone, Copy, Debug, PartialEq, Eq)]
 pub enum UsageError {
     /// A growth was refused.
@@ -90,6 +104,19 @@ impl Expected {
             Expected::Seconds => "SECONDS, a number from 1 to 86400",
             Expected::Reads => "READS, how many of 100 requests are reads, from 0 to 100",
             Expected::Node => "NODE, a number of 32 bits in decimal digits",
+            Expected::ControlVerb => "one of stop, remove, join, status and help",
+            Expected::ChainNode => {
+                "CHAIN/NODE, the name or the index of a chain and a number from 1 to 4294967295"
+            }
+            Expected::Force => "--force or the end of the line",
+            Expected::Verb => "a verb, as set, get, cas, add, sub, txn, members or health",
+            Expected::Key => "KEY, of 1 to 128 bytes",
+            Expected::VerbValue => {
+                "VALUE, a text, or with --hex pairs of hexadecimal digits in lower case"
+            }
+            Expected::VerbItem => {
+                "ITEM, one of c:KEY:VERSION, r:KEY and w:KEY:VALUE, with a KEY without a colon"
+            }
             Expected::End => "no more words",
         }
     }

@@ -33,7 +33,7 @@ pub(crate) struct Numbers {
     pub most_leap: u32,
 }
 
-/// Why an option gives no number.
+/// Reasons why an option gives no number.
 #[derive(Clone, Copy, Debug, PartialEq, Eq)]
 pub(crate) enum Unfit {
     /// A growth was refused.

@@ -17,10 +17,10 @@ pub const BAD_INPUT: u8 = 2;
 /// The status of `craqd` and `craq_lab` where a growth was refused.
 pub const NO_MEMORY: u8 = 3;
 
-/// The words of the command line, the program's own among them.
+/// Returns the words of the command line, the program's own among them.
 ///
-/// An error of kind `InvalidData` where one is not UTF-8, of kind `OutOfMemory` where a growth was
-/// refused.
+/// Fails with kind `InvalidData` if a word is not UTF-8, and with kind `OutOfMemory` when out of
+/// memory.
 pub fn words_of<R: AllocGlobal + Env>(rt: &R) -> io::Result<Vec<String>> {
     let mut words = Vec::new(rt.alloc());
     for word in env::args(rt)? {

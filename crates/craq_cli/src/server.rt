@@ -26,8 +26,11 @@ pub struct Line<'a> {
     pub idle: u32,
     /// The most that a pass may lie above the largest pass that was returned; 0 for no such bound.
     pub most_leap: u32,
-    /// True where the server ends once its standard input ends.
+    /// True where the server ends once its standard input ends, as it does where that has control
+    /// lines.
     pub until_input_ends: bool,
+    /// True where the lines of standard input stop, remove and join nodes.
+    pub control: bool,
     /// True where journals are kept, and audited if the server ends in order.
     pub journal: bool,
     /// True where connections and refusals are logged on standard error.
@@ -49,6 +52,9 @@ const LOG: &str = "Print connections and refusals on standard error";
 
 const UNTIL_INPUT_ENDS: &str = "End in order once standard input ends";
 
+const CONTROL: &str =
+    "Take lines of standard input that stop, remove and join nodes; implies --until-input-ends";
+
 const HELP: &str = "PLAN is a TOML file that names each chain and its nodes, the head first:
 
   [[chain]]
@@ -61,6 +67,18 @@ the end, for each chain, what its audit found:
   audit merged R          one run of the chain, with all R calls that were answered
   audit nosender N I      step I (from 0) of node N took a message that no node sent
   audit noreceipt I       call I (from 0) is in no journal
+
+With --control the server takes lines of standard input, answers each on standard error, and
+ends in order once they end:
+
+  stop CHAIN/NODE         stop a node forever; refused for the last ready member of its chain,
+                          unless --force stands behind it
+  remove CHAIN/NODE       remove a stopped node from its chain
+  join CHAIN/NODE         let a new node join its chain, behind the last one
+  status                  each chain with its epoch, and its members, the head first
+  help                    these lines
+CHAIN is the name of a chain or its index, from 0. A node that joins has a number that its
+chain never had.
 
 Status: 0 once the server has ended in order; 1 with `cannot print` where the output takes no
 text; 2 with `cannot read PLAN`, `plan refused`, or after a bad command line; 3 with `no
@@ -102,13 +120,14 @@ fn named_command<'a>(alloc: Global) -> Command<'a> {
         .after_help(HELP)
 }
 
-/// Adds `[--journal] [--connections N] [--until-input-ends]`: how long the server runs, and what it
-/// keeps. Fails only when out of memory.
+/// Adds `[--journal] [--connections N] [--until-input-ends] [--control]`: how long the server runs,
+/// and what it keeps. Fails only when out of memory.
 fn command_with_ends<'a>(alloc: Global) -> Result<Command<'a>, AllocError> {
     let journal = flag_arg(alloc, "journal", JOURNAL);
     let command = named_command(alloc).arg(journal)?;
     let command = command.arg(number_arg(alloc, NumberOption::Connections))?;
-    command.arg(flag_arg(alloc, "until-input-ends", UNTIL_INPUT_ENDS))
+    let command = command.arg(flag_arg(alloc, "until-input-ends", UNTIL_INPUT_ENDS))?;
+    command.arg(flag_arg(alloc, "control", CONTROL))
 }
 
 /// Adds `[--threads N] [--most N] [--idle SECONDS]`: how connections are served. Fails only when
@@ -157,6 +176,7 @@ fn line_of<'a>(matches: &ArgMatches<'a>) -> Result<Line<'a>, &'static str>
         Ok(numbers) => numbers,
         Err(unfit) => return Err(reported(unfit)),
     };
+    let control = matches.get_flag("control");
     Ok(Line {
         plan,
         address,
@@ -165,7 +185,8 @@ fn line_of<'a>(matches: &ArgMatches<'a>) -> Result<Line<'a>, &'static str>
         most: numbers.most,
         idle: numbers.idle,
         most_leap: numbers.most_leap,
-        until_input_ends: matches.get_flag("until-input-ends"),
+        until_input_ends: control || matches.get_flag("until-input-ends"),
+        control,
         journal: matches.get_flag("journal"),
         log: matches.get_flag("log"),
     })

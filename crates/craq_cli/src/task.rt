@@ -1,5 +1,6 @@
 //! The tasks of `craq` as values; made by `commands`, done by the program `craq`.
 use craq_commands::ReadMode;
+use craq_names::{ChainId, ClientId};
 use craq_script::{ScriptObject, UpdateLine};
 
 /// A request of `craq` to a server.
@@ -28,9 +29,76 @@ pub struct Load {
     pub reads: u64,
 }
 
+/// The form of values on a command line.
+#[derive(Clone, Copy, Debug, PartialEq, Eq)]
+pub enum ValueForm {
+    /// The bytes of the word.
+    Bytes,
+    /// Pairs of hexadecimal digits in lower case.
+    Hexadecimal,
+}
+
+/// The parts of a request that the words of a verb do not name.
+#[derive(Clone, Copy, Debug, PartialEq, Eq)]
+pub struct VerbContext {
+    /// The chain of all objects.
+    pub chain: ChainId,
+    /// The client whose update it is.
+    pub client: ClientId,
+    /// The request number of the update.
+    pub number: u64,
+    /// The mode of a read.
+    pub mode: ReadMode,
+    /// The form of values.
+    pub form: ValueForm,
+}
+
+/// A verb for people.
+#[derive(Debug, Drop)]
+pub enum Verb {
+    /// One request. The node of an update is 0 until the caller chooses one.
+    Ask(Request),
+    /// The chains and their members.
+    Members,
+    /// The times of an update through the whole chain and of a read at each member.
+    Health,
+}
+
+/// The options of a verb for people, apart from the node, the address and the pass.
+#[derive(Clone, Copy, Debug)]
+pub struct VerbOptions<'a> {
+    /// The chain, by its number or its name; chain 0 if there is none.
+    pub chain: Option<&'a str>,
+    /// The mode of a read.
+    pub mode: ReadMode,
+    /// The client's id.
+    pub client: Option<u64>,
+    /// The request number of an update that is asked again.
+    pub number: Option<u64>,
+    /// The form of values that are given and printed.
+    pub form: ValueForm,
+    /// True if a value of 8 bytes is printed as a number.
+    pub is_decimal: bool,
+    /// True if the reply is printed as a JSON object.
+    pub is_json: bool,
+    /// True if the pass of the reply is printed too.
+    pub prints_pass: bool,
+}
+
+/// The words of a verb for people, with its options.
+#[derive(Debug, Drop)]
+pub struct VerbLine<'a> {
+    /// The verb and its words.
+    pub words: Vec<&'a str>,
+    /// Its options.
+    pub options: VerbOptions<'a>,
+}
+
 /// The task of `craq`.
 #[derive(Debug, Drop)]
-pub enum Task {
+pub enum Task<'a> {
+    /// A verb for people.
+    Verb(VerbLine<'a>),
     /// One request, and its answer printed.
     Ask(Request),
     /// The members of each chain, printed as they change; for this many seconds where there is a

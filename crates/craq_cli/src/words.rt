@@ -1,4 +1,4 @@
-//! The word at a place of a command, as what it has to be; for `commands`.
+//! Reads the word at a place of a command as a number, an object or another value; for `commands`.
 ghost use Rattle.std.specs.Prelude.{◌≡◌, ◌≤◌, map, option_map, slice_get, IfOk};
 ghost use Rattle.craq_script.specs.Words.{script_object, script_value, mode_of};
 ghost use Rattle.craq_cli.specs.Commands.{Reads, word_at, at_end};
@@ -11,14 +11,14 @@ use craq_names::Items;
 use craq_script::{ParseError, ScriptObject, mode_of, script_object, script_value};
 use std::alloc::Global;
 
-/// The word at a place is not what is expected there.
+/// Returns the error of a word at a place where another is expected.
 pub(crate) const fn bad(place: usize, expected: Expected) -> UsageError
     ensures { result ≡ UsageError.Bad (record { place = place; expected = expected }) }
 {
     UsageError::Bad(BadWord { place, expected })
 }
 
-/// The bytes of the word at a place, where there is one.
+/// Returns the bytes of the word at a place, or `None` if there is no word.
 pub(crate) fn bytes_at<'a>(words: &[&'a str], place: usize) -> Option<&'a [u8]>
     ensures { option_map (λ w. w.now) result ≡ slice_get (map (λ w. w.now) words.now) place }
 {
@@ -28,7 +28,7 @@ pub(crate) fn bytes_at<'a>(words: &[&'a str], place: usize) -> Option<&'a [u8]>
     }
 }
 
-/// The number at a place, within these bounds.
+/// Reads the number at a place, within these bounds.
 pub(crate) fn number_at(
     words: &[&str],
     place: usize,
@@ -49,7 +49,7 @@ pub(crate) fn number_at(
     }
 }
 
-/// The object at a place.
+/// Reads the object at a place.
 pub(crate) fn object_at(
     alloc: Global,
     words: &[&str],
@@ -67,7 +67,7 @@ pub(crate) fn object_at(
     }
 }
 
-/// The bytes of the value at a place.
+/// Reads the bytes of the value at a place.
 pub(crate) fn value_at(alloc: Global, words: &[&str], place: usize) -> Result<Items<u8>, UsageError>
     ensures { Reads (λ x. x) result (word_at Expected.Value script_value (map (λ w. w.now) words.now) place) }
 {
@@ -81,7 +81,7 @@ pub(crate) fn value_at(alloc: Global, words: &[&str], place: usize) -> Result<It
     }
 }
 
-/// The mode at a place.
+/// Reads the mode at a place.
 pub(crate) fn mode_at(words: &[&str], place: usize) -> Result<ReadMode, UsageError>
     ensures { Reads (λ x. x) result (word_at Expected.Mode mode_of (map (λ w. w.now) words.now) place) }
 {
@@ -95,7 +95,7 @@ pub(crate) fn mode_at(words: &[&str], place: usize) -> Result<ReadMode, UsageErr
     }
 }
 
-/// The value, where no word stands at the place.
+/// Returns the value if no word stands at the place.
 pub(crate) fn at_end<T: Drop>(value: T, words: &[&str], place: usize) -> Result<T, UsageError>
     ensures { Reads (λ x. x) result (at_end value (map (λ w. w.now) words.now) place) }
 {

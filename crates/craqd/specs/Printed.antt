@@ -1,4 +1,4 @@
--- What is printed of an audit, and told of a fault.
+-- The lines that are printed of an audit and of a fault.
 use Rattle.std.specs.Prelude.{ℕ, List, Option, Some, None, ◌++◌, codes}
 use Rattle.std.specs.Fmt.{decimal}
 use Rattle.craq_names.specs.Refused.{refusal_number}
@@ -7,13 +7,13 @@ use Rattle.craq_audit.specs.declared.finding.Audit.TheVariants as audits
 use Rattle.craqd.specs.declared.fault.Fault.{Fault}
 use Rattle.craqd.specs.declared.fault.Fault.TheVariants as faults
 
--- what an audit found, with so many receipts
+-- the line of an audit's finding, with this number of receipts
 unfoldable pub audit_text : Audit → ℕ → List ℕ
 audit_text (audits.Merged run) receipts = codes "audit merged " ++ decimal receipts
 audit_text (audits.NoSender node index) receipts = codes "audit nosender " ++ decimal node ++ codes " " ++ decimal index
 audit_text (audits.NoReceipt index) receipts = codes "audit noreceipt " ++ decimal index
 
--- a fault of a server whose plan file has this name, as it is told on standard error; one of the output has no text here
+-- the line on standard error for a fault of a server whose plan file has this name; a fault of the output has no text here
 unfoldable pub fault_text : Fault → List ℕ → Option (List ℕ)
 fault_text faults.CannotRead plan = Some (codes "cannot read " ++ plan)
 fault_text faults.BadPlan plan = Some (codes "plan refused")

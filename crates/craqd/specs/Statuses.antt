@@ -3,7 +3,7 @@ use Rattle.std.specs.Prelude.{ℕ, Option, Some, None}
 use Rattle.craqd.specs.declared.fault.Fault.{Fault}
 use Rattle.craqd.specs.declared.fault.Fault.TheVariants as faults
 
--- that of a fault which is told on standard error; one of the output has none here
+-- the status after a fault that is printed on standard error; a fault of the output has none here
 abbrev pub status_of : Fault → Option ℕ
 status_of faults.CannotRead = Some 2
 status_of faults.BadPlan = Some 2

@@ -1,5 +1,8 @@
-//! Ends a server in order once its standard input ends; begun by `serving`.
+//! Ends a server in order once its standard input ends, whose lines may be control lines; begun by
+//! `serving`.
+use crate::control_input::read_control_lines;
 use crate::fault::Fault;
+use crate::line_slot::LineSlot;
 use craq_server::Connections;
 use std::io::{ErrorKind, Input, Read, StdinLock};
 use std::sync::{Arc, Wait};
@@ -24,10 +27,9 @@ fn read_to_end<R: Wait>(rt: &R, input: StdinLock<'static>) {
     drop(input);
 }
 
-/// Ends a server once standard input has ended: no connection is taken from then on, those that are
-/// open bring no more, and 5 seconds later those that have not taken their replies are cut.
-fn end_with_input<R: Clock + Wait>(rt: &R, input: StdinLock<'static>, connections: &Connections) {
-    read_to_end(rt, input);
+/// Ends a server: no connection is taken from now on, those that are open bring no more, and 5
+/// seconds later those that have not taken their replies are cut.
+fn end_in_order<R: Clock + Wait>(rt: &R, connections: &Connections) {
     connections.end(rt);
     thread::sleep(rt, Duration::from_millis(GRACE_MILLISECONDS));
     connections.cut(rt);
@@ -41,7 +43,39 @@ where
 {
     let theirs = Arc::try_clone(connections)?;
     let input = rt.reader();
-    match thread::spawn(&rt, move || end_with_input(&rt, input, &theirs)) {
+    let begun = thread::spawn(&rt, move || {
+        read_to_end(&rt, input);
+        end_in_order(&rt, &theirs);
+    });
+    match begun {
+        Ok(watching) => {
+            drop(watching);
+            Ok(())
+        }
+        Err(_) => Err(Fault::Memory),
+    }
+}
+
+/// Begins a thread that hands over the control lines of standard input, and ends the server once
+/// they have ended and the last one was run. It is not joined: it reads for as long as the program
+/// runs. Fails where there is no thread or no memory.
+pub fn watch_control<R>(
+    rt: R,
+    connections: &Arc<Connections>,
+    slot: &Arc<LineSlot>,
+) -> Result<(), Fault>
+where
+    R: AllocGlobal + Input<Reader = StdinLock<'static>> + Clock,
+    R: Threads + Wait + Copy + Drop + Send + 'static,
+{
+    let theirs = Arc::try_clone(connections)?;
+    let lines = Arc::try_clone(slot)?;
+    let input = rt.reader();
+    let begun = thread::spawn(&rt, move || {
+        read_control_lines(&rt, input, &lines);
+        end_in_order(&rt, &theirs);
+    });
+    match begun {
         Ok(watching) => {
             drop(watching);
             Ok(())

@@ -15,7 +15,7 @@ const CANNOT_LISTEN: u8 = 4;
 /// The status where an audit was refused.
 const AUDIT_REFUSED: u8 = 5;
 
-/// Why nothing is served, or no more.
+/// Reasons why the server serves nothing, or no more.
 #[derive(Clone, Copy)]
 pub enum Fault {
     /// The plan file is not read.

@@ -1,14 +1,19 @@
-//! The program that runs and serves the store of a plan, which `./run_service` starts too: `craqd [OPTION
-//! ..] PLAN ADDRESS`.
+//! The program that runs and serves the store of a plan, which `./serve` starts too: `craqd
+//! [OPTION ..] PLAN ADDRESS`.
 #![tactic(auto)]
 
 mod audits;
 mod closing;
+mod control_input;
+mod controlling;
 mod fault;
+mod line_slot;
 mod lines;
 mod plans;
+mod readiness;
 mod serving;
 mod telling;
+mod ticking;
 
 use craq_cli::{Line, NO_MEMORY, report_failure, report_no_text, report_words, words_of};
 use serving::serve_line;

@@ -1,4 +1,4 @@
-//! The plan of a file; called by `serving`.
+//! Reads the plan of a file; called by `serving`.
 ghost use Rattle.std.specs.Prelude.{◌≡◌, ◌⊎◌, List, IfErr, IfOk, IsUtf8};
 ghost use Rattle.craq_place.specs.Plan.{Chain, IsPlan, IsPlanText};
 
@@ -11,7 +11,7 @@ use std::io::ErrorKind;
 use std::rt::Files;
 use std::str::from_utf8;
 
-/// The bytes of a file.
+/// Reads the bytes of a file.
 fn bytes_of<R: AllocGlobal + Files>(rt: &R, path: &str) -> Result<Vec<u8>, Fault> {
     match fs::read(rt, path) {
         Ok(bytes) => Ok(bytes),
@@ -20,8 +20,8 @@ fn bytes_of<R: AllocGlobal + Files>(rt: &R, path: &str) -> Result<Vec<u8>, Fault
     }
 }
 
-/// The plan that the bytes of a file stand for as text. `BadPlan` exactly where they are no text or
-/// stand for no plan; `Memory` where a growth was refused.
+/// Returns the plan in the bytes of a file. Fails with `BadPlan` exactly if they are no text or no
+/// plan, and with `Memory` when out of memory.
 fn plan_of_bytes(alloc: Global, bytes: &[u8]) -> Result<Plan, Fault>
     ensures found { IfOk result (λ p. IsUtf8 bytes.now × IsPlanText bytes.now p) }
     ensures only { IfOk result (λ p. (other : List Chain) → IsPlanText bytes.now other → other ≡ p) }
@@ -38,7 +38,7 @@ fn plan_of_bytes(alloc: Global, bytes: &[u8]) -> Result<Plan, Fault>
     }
 }
 
-/// The plan of a file.
+/// Reads the plan of a file.
 pub fn plan_of<R: AllocGlobal + Files>(rt: &R, path: &str) -> Result<Plan, Fault>
     ensures { IfOk result IsPlan }
 {

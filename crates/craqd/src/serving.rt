@@ -3,10 +3,13 @@
 ghost use Rattle.std.specs.Prelude.{◌≡◌, if◌then◌else◌, nat_lt, true, IfOk};
 
 use crate::audits::print_audits;
-use crate::closing::watch_input;
+use crate::closing::{watch_control, watch_input};
+use crate::controlling::run_lines;
 use crate::fault::Fault;
+use crate::line_slot::LineSlot;
 use crate::plans::plan_of;
 use crate::telling::tell_serving;
+use crate::ticking::tick_chains;
 use craq_cli::Line;
 use craq_compact_history::ListCore;
 use craq_server::{Connections, EventLoops, Log, ServeReport as Accepted, Serving, accept_with};
@@ -19,13 +22,10 @@ use std::sync::atomic::{AtomicBool, Ordering};
 use std::sync::{Arc, Wait};
 use std::thread;
 use std::thread::{Scope, Threads};
-use std::time::{Clock, Duration};
+use std::time::Clock;
 
 /// The stores that are served.
 pub type RunningStore = Store<ListCore, OpenGate>;
-
-/// The milliseconds between two ticks, at which nodes and masters send again what others may lack.
-const TICK_MILLISECONDS: u64 = 50;
 
 /// Listens on an address.
 fn listen<R>(rt: &R, address: &str) -> Result<TcpListener, Fault>
@@ -46,6 +46,13 @@ fn print_port<R: Print>(rt: &R, address: SocketAddr) -> Result<(), Fault> {
     Ok(())
 }
 
+/// The parts of a server that the thread shares that reads standard input.
+#[derive(Clone, Copy)]
+struct InputParts<'s> {
+    connections: &'s Arc<Connections>,
+    slot: &'s Arc<LineSlot>,
+}
+
 /// A store that is served, and its listener.
 #[derive(Drop)]
 struct Service<'s, R: Wait> {
@@ -54,6 +61,8 @@ struct Service<'s, R: Wait> {
     listener: &'s TcpListener,
     address: SocketAddr,
     connections: &'s Connections,
+    /// The slot of its control lines, where it takes any.
+    slot: Option<&'s LineSlot>,
     /// True where the server is over.
     over: AtomicBool,
 }
@@ -76,17 +85,6 @@ impl<R> Service<'_, R>
 where
     R: AllocGlobal + Eprint + Clock + Threads + Wait + Copy + Drop + Send + Sync + 'static,
 {
-    /// Ticks the store until the server is over.
-    fn tick(&self) {
-        for _ in self.rt.forever() {
-            if self.over.load(Ordering::SeqCst) {
-                break;
-            }
-            self.store.tick(&self.rt);
-            thread::sleep(&self.rt, Duration::from_millis(TICK_MILLISECONDS));
-        }
-    }
-
     /// Serves the connections until the server is to end and all are over. Fails where a thread, or
     /// what it needs, cannot be made; no connection was taken then.
     fn accept(&self, event_loops: EventLoops) -> Result<Accepted, AllocError> {
@@ -119,7 +117,43 @@ where
         printed
     }
 
-    /// Serves the connections on one thread while another ticks the store, until all are over.
+    /// Ticks the chains until the server is over.
+    fn tick(&self) {
+        tick_chains(&self.rt, self.store, &self.over);
+    }
+
+    /// Runs the control lines that come, until the server is over.
+    fn control(&self) {
+        if let Some(slot) = self.slot {
+            run_lines(self.rt, self.store, slot);
+        }
+    }
+
+    /// Starts the thread that ticks the store and, where the server takes control lines, the one
+    /// that runs them. Fails where there is no thread; those that were started end by `release`.
+    fn start_threads<'e, E>(&'e self, scope: &Scope<'e, E>) -> Result<(), Fault> {
+        if scope.spawn(move || self.tick()).is_err() {
+            return Err(Fault::Memory);
+        }
+        if self.slot.is_none() {
+            return Ok(());
+        }
+        if scope.spawn(move || self.control()).is_err() {
+            return Err(Fault::Memory);
+        }
+        Ok(())
+    }
+
+    /// Lets the threads end that tick the store and that run control lines.
+    fn release(&self) {
+        self.over.store(true, Ordering::SeqCst);
+        if let Some(slot) = self.slot {
+            slot.close(&self.rt);
+        }
+    }
+
+    /// Serves the connections on one thread while others tick the store and run control lines,
+    /// until all are over.
     fn run<'e, E>(
         &'e self,
         scope: &Scope<'e, E>,
@@ -128,16 +162,17 @@ where
     where
         R: Print,
     {
-        if scope.spawn(move || self.tick()).is_err() {
+        if self.start_threads(scope).is_err() {
+            self.release();
             return Err(Fault::Memory);
         }
         let Ok(accepting) = scope.spawn(move || self.accept(event_loops)) else {
-            self.over.store(true, Ordering::SeqCst);
+            self.release();
             return Err(Fault::Memory);
         };
         let followed = self.follow();
         let accepted = accepting.join(&self.rt);
-        self.over.store(true, Ordering::SeqCst);
+        self.release();
         combine_results(followed, accepted)
     }
 }
@@ -204,13 +239,33 @@ const fn serving_of(line: &Line<'_>) -> Serving
     }
 }
 
+/// Begins to read standard input, where the command line asks for that.
+fn watch<R>(rt: R, line: &Line<'_>, parts: InputParts<'_>) -> Result<(), Fault>
+where
+    R: AllocGlobal + Input<Reader = StdinLock<'static>> + Clock,
+    R: Threads + Wait + Copy + Drop + Send + 'static,
+{
+    if line.control {
+        watch_control(rt, parts.connections, parts.slot)
+    } else if line.until_input_ends {
+        watch_input(rt, parts.connections)
+    } else {
+        Ok(())
+    }
+}
+
+/// Returns the slot of a server's control lines, where its command line asks for these.
+fn slot_of<'s>(line: &Line<'_>, parts: InputParts<'s>) -> Option<&'s LineSlot> {
+    if line.control { Some(parts.slot) } else { None }
+}
+
 /// Serves the connections of a listener to a store as a command line asks for.
 fn serve_listener<'s, R>(
     rt: R,
     store: &'s RunningStore,
     line: &Line<'_>,
     listener: &'s TcpListener,
-    connections: &'s Arc<Connections>,
+    parts: InputParts<'s>,
 ) -> Result<(), Fault>
 where
     R: AllocGlobal + Input<Reader = StdinLock<'static>> + Print + Eprint + Clock,
@@ -220,9 +275,7 @@ where
     let Ok(address) = listener.local_addr() else {
         return Err(Fault::CannotListen);
     };
-    if line.until_input_ends {
-        watch_input(rt, connections)?;
-    }
+    watch(rt, line, parts)?;
     tell_serving(&rt, store, line, address.port())?;
     let event_loops = EventLoops::new(&rt, rt.alloc(), serving_of(line))?;
     let service = Service {
@@ -230,7 +283,8 @@ where
         store,
         listener,
         address,
-        connections,
+        connections: parts.connections,
+        slot: slot_of(line, parts),
         over: AtomicBool::new(false),
     };
     let accepted = service.run_service(event_loops);
@@ -246,8 +300,13 @@ where
     R: Net<Listener = TcpListener, Stream = TcpStream>,
 {
     let connections = Arc::new(rt.alloc(), Connections::new(rt.alloc(), line.most)?)?;
+    let slot = Arc::new(rt.alloc(), LineSlot::new())?;
     let listener = listen(&rt, line.address)?;
-    serve_listener(rt, store, line, &listener, &connections)
+    let parts = InputParts {
+        connections: &connections,
+        slot: &slot,
+    };
+    serve_listener(rt, store, line, &listener, parts)
 }
 
 /// Returns how the chains' work is done: by a thread for each chain where a few threads serve all

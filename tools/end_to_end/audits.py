@@ -1,11 +1,11 @@
-"""What craqd prints, and how it ends, where its audits find a fault or are refused: of a craqd that is built from changed sources, since nothing
-that is asked from outside makes journals and receipts that do not fit."""
+"""Checks the output and the status of craqd where its audits find a fault or are refused. The craqd is built
+from changed sources: no request from outside makes journals and receipts that do not fit."""
 import re
 
 from tools.end_to_end import running
 from tools.end_to_end.clients import Client
 
-# The program, and what stands in which file of crates/ in the place of what, once in it.
+# The program, and its changes: a file of crates/, a text that occurs in it once, and the text that replaces it.
 PROGRAM = "craqd_misaudited"
 CHANGES = [
     # Each chain is audited with the receipts of the one beside it, also where no journals are kept,
@@ -34,14 +34,16 @@ nodes = [2]
 name = "d"
 nodes = [3]
 """
-# Of so many chains, with journals or without: the lines of the audits of chains 1, 0 and 3, by a pattern since ticks may come to node 78 before
-# the put does; with which number the next audit is refused, if one is; and the status.
+# The number of chains, and whether they keep journals; the lines of the audits of chains 1, 0 and 3, by a
+# pattern since ticks may come to node 78 before the put does; the number with which the next audit is refused,
+# if one is; and the status.
 FAULTS = "audit noreceipt 0\naudit nosender 78 [0-9]+\n"
 ENDS = (TWO, True, FAULTS, None, 0), (FOUR, True, f"{FAULTS}audit merged 0\n", 23, 5), (TWO, False, "", 24, 5)
 
 
 def ended(checks, craqd, plan, journal, audits, refused, status):
-    """A server whose one client puts at node 77 of chain 0 ends so."""
+    """A server whose one client puts at node 77 of chain 0 ends with these audits and this
+    status."""
     server = running.Server(craqd, plan, 1, journal=journal)
     try:
         with Client(server.address, tries=1) as client:
@@ -57,7 +59,7 @@ def ended(checks, craqd, plan, journal, audits, refused, status):
 
 
 def tried(checks, craqd):
-    """Each of these ends."""
+    """Tries each of the ends, and returns their number in words."""
     for end in ENDS:
         ended(checks, craqd, *end)
     return f"{len(ENDS)} ends of a server"

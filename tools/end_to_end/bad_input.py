@@ -45,7 +45,7 @@ NOTHING = {
 
 
 def said_to(server, sent):
-    """All that the server says to these bytes and the end."""
+    """Returns all that the server sends for these bytes and their end."""
     with server.connect() as made:
         made.sendall(sent)
         made.shutdown(socket.SHUT_WR)
@@ -109,7 +109,8 @@ def go_on(checks, server, connections):
 
 
 def never_reads(checks, server):
-    """A client that asks and does not read: in the end nothing more is taken from it, and the others are served."""
+    """A client that asks and does not read: the server stops taking bytes of it, and serves the
+    others."""
     with server.connect() as made:
         made.setsockopt(socket.SOL_SOCKET, socket.SO_RCVBUF, 4096)
         made.settimeout(1)
@@ -136,7 +137,7 @@ def garbage_of(draw):
 
 
 def garbage(checks, server, count):
-    """So many connections that send garbage, some of them at once; every third is reset without a word."""
+    """Opens `count` connections that send garbage, some of them at once; resets every third without a word."""
     draw = random.Random(2)
     for first in range(0, count, 100):
         some = [(server.connect(), *garbage_of(draw)) for _ in range(min(100, count - first))]

@@ -52,7 +52,7 @@ class Counted:
         self.asks = 0
 
     def ask(self, name, *words, **more):
-        """What the call gives, or the refusal as (number, detail)."""
+        """Returns the result of the call, or the refusal as (number, detail)."""
         try:
             told = getattr(self.client, name)(*words, chain=self.chain, **more)
         except Refused as refused:
@@ -70,7 +70,8 @@ class Counted:
         self.server.answers(self.chain, self.asks)
 
 
-# What a fresh client is told of an object that nobody else writes, {} standing for its name.
+# Calls and their results for a client without updates, on an object that no other client writes; {} stands
+# for its name.
 CALLS = [
     ("read", ["{}"], {}, Read(0, b"")),
     ("put", ["{}", b"a\0\xff"], {}, Written(1)),
@@ -99,7 +100,7 @@ CALLS = [
 
 
 def named(it, name):
-    """The words of a call with the object's name in them."""
+    """Returns the words of a call with the object's name in them."""
     if isinstance(it, (list, tuple)):
         return type(it)(named(one, name) for one in it)
     return it.format(name) if isinstance(it, str) else it

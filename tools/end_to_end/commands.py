@@ -1,7 +1,7 @@
 """craq: every command, every refusal that it can meet, every fault.
 
 A row is the node, the words of the command, and what has to be printed: an answer, or 'refused ..'. Texts are written
-from docs/use/SCRIPTS.md and docs/use/SERVER.md, never from what a program printed.
+from docs/use/SCRIPTS.md and docs/use/CRAQ.md, never from what a program printed.
 """
 import re
 import socket
@@ -114,7 +114,7 @@ NO_LINE = [
     ["--node", "1", "--pass", MAX + "0", "read", "strong", "k"], ["--node", "1", "--unknown", "read", "strong", "k"],
 ]
 
-# What a server that is none sends back, after which the connection is of no use.
+# Replies that no server sends, after which the connection is of no use.
 NO_REPLY = {
     "nothing": "",
     "a length alone": "00000013",
@@ -125,6 +125,24 @@ NO_REPLY = {
     "a reply and a byte more": "00000014 0101 0000000000000009 01 0000000000000001 00",
     "version 0 with a value": "00000015 0102 0000000000000009 0000000000000000 000161",
 }
+
+# The words of refusals on standard error.
+WORDS = {
+    1: "a key has 1 to 128 bytes", 2: "a value has at most 4096 bytes",
+    3: "each list of a transaction has at most 16 items",
+    4: "a transaction compares, reads or writes at least one object",
+    5: "an object stands twice in one list of the transaction", 6: "request numbers begin at 1",
+    7: "there is no such chain", 8: "the objects are not all of the chain that was asked",
+    9: "updates go to the head of the chain, node {}",
+    13: "a counter has no next number, or the pass is too far above the largest told", 14: "out of memory",
+    23: "the chain has no such node, or the message is for another",
+}
+
+
+def words_of(refused):
+    """Returns the line on standard error for a refusal that is printed like this."""
+    _, number, *detail = refused.split()
+    return f"craq: {WORDS[int(number)].format(*detail)}\n"
 
 
 def chain_of(words):
@@ -137,12 +155,12 @@ def asked(craq, address, node, words, shown=None):
 
 
 def check_row(checks, server, craq, row, shown):
-    """One command; gives the pass to show from now on."""
+    """Runs one command, checks its output, and returns the pass to show from now on."""
     node, words, wanted = row
     status, out, err = asked(craq, server.address, node, words, shown)
     what = f"craq --node {node} {words[:60]}"
     if wanted.startswith("refused"):
-        checks.same(what, (status, out, err), (3, wanted + "\n", ""))
+        checks.same(what, (status, out, err), (3, wanted + "\n", words_of(wanted)))
         if wanted.split()[1] not in list("123456"):
             server.counts()
         return shown
@@ -170,7 +188,7 @@ def rows(checks, server, craq):
     for node in 1, 2:
         found = asked(craq, server.address, node, "put 1 20 k g", MAX)
         server.counts()
-        checks.same(f"a pass at its end at node {node}", found, (3, "refused 13\n", ""))
+        checks.same(f"a pass at its end at node {node}", found, (3, "refused 13\n", words_of("refused 13")))
     for shown, told in (None, 0), (7, 7):
         found = asked(craq, server.address, 1, "status", shown)
         server.counts()
@@ -181,7 +199,7 @@ def rows(checks, server, craq):
 
 
 def is_told(err, wrong, expected):
-    """Whether standard error has `script line 1`, then what was expected, and what stands there in its place."""
+    """Returns whether standard error has `script line 1`, then what was expected, and what stands there instead."""
     found = "the end of the words" if wrong is None else f"'{wrong}'"
     return re.match(rf"script line 1\nerror: expected {expected}(, [^\n]*)?, and found {re.escape(found)}\n", err) is not None
 
@@ -205,16 +223,16 @@ def no_server(checks, craq, nowhere):
     checks.same("craq where nothing listens", asked(craq, nowhere, 1, "read strong k"), fault)
     for words, refusal in (f"put 1 0 {LONG_KEY} a", 1), ("put 1 0 k a", 6):
         found = asked(craq, nowhere, 1, words)
-        checks.same(f"craq {words[:9]} where nothing listens", found, (3, f"refused {refusal}\n", ""))
+        checks.same(f"craq {words[:9]} where nothing listens", found, (3, f"refused {refusal}\n", words_of(f"refused {refusal}")))
     for what, reply in NO_REPLY.items():
         found = asked_of(craq, bytes.fromhex(reply))
         checks.same(f"craq to whom {what} is sent", found, fault)
     found = asked_of(craq, bytes.fromhex("0000000b 0103 0e 0000000000000000"))
-    checks.same("craq to whom a server without memory replies", found, (3, "refused 14\n", ""))
+    checks.same("craq to whom a server without memory replies", found, (3, "refused 14\n", words_of("refused 14")))
 
 
 def asked_of(craq, reply):
-    """What craq does with this in place of a reply."""
+    """Returns the status and the output of craq when a server sends it this instead of a reply."""
     with socket.create_server(("127.0.0.1", 0)) as listener:
         def give():
             made, _ = listener.accept()
@@ -231,7 +249,8 @@ def asked_of(craq, reply):
 
 
 def helps(checks, craq, craqd):
-    for program, words in (craq, "put tas append prepend inc dec mini read status shell watch bench --connect --node --pass"), (craqd, "--journal --connections PLAN ADDRESS"):
+    for program, words in (craq, "set get cas add sub txn members health put tas append prepend inc dec mini read status shell watch bench "
+                              "--connect --node --pass --chain --client --number --hex --json --print-pass"), (craqd, "--journal --connections --control stop remove join CHAIN/NODE PLAN ADDRESS"):
         status, out, err = running.ended([program, "--help"])
         missing = [it for it in words.split() if it not in out]
         name = program.rpartition("/")[2]

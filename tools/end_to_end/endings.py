@@ -125,7 +125,8 @@ def signalled(checks, craqd):
 
 
 def listener_of(process, port):
-    """A handle of the listening socket of another process, of which this one is the parent; None where the system gives none."""
+    """Returns a handle of the listening socket of another process, of which this one is the parent,
+    or None if the system gives none."""
     call = ctypes.CDLL(None, use_errno=True).syscall
     pidfd = call(PIDFD_OPEN, process.pid, 0)
     if pidfd < 0:
@@ -147,7 +148,8 @@ def listener_of(process, port):
 
 
 def listener_fails(checks, craqd):
-    """A listener that fails for a reason that lasts: what was asked is answered and audited, and the fault is told."""
+    """A server whose listener fails for a lasting reason answers and audits the requests so far,
+    and prints the fault."""
     with Limited(craqd, "--journal") as server:
         first = server.connect()
         first.sendall(read_of(1, 0))

@@ -1,4 +1,4 @@
-"""What a server does at its limits: too many connections, idle ones, a pass that leaps, the end of its standard input."""
+"""Tries a server at its limits: too many connections, idle ones, a pass that leaps, the end of its standard input."""
 import re
 import resource
 import socket
@@ -48,17 +48,17 @@ class Limited:
 
 
 def read_of(node, shown):
-    """A strong read of k, with this pass."""
+    """Returns a strong read of k, with this pass."""
     return framed(bytes.fromhex("0102") + node.to_bytes(4, "big") + shown.to_bytes(8, "big") + bytes.fromhex("010000016b"))
 
 
 def reply(made):
-    """The payload of the next reply."""
+    """Returns the payload of the next reply."""
     return taken(made, int.from_bytes(taken(made, 4), "big"))
 
 
 def is_served(made):
-    """Whether a connection is answered."""
+    """Returns whether a connection is answered."""
     made.sendall(framed(bytes.fromhex("0103")))
     return reply(made)[:2] == bytes.fromhex("0104")
 
@@ -82,7 +82,7 @@ def most(checks, craqd):
 
 
 def rest_or_none(made):
-    """All that a connection brings where it ends at once; none where it stays open."""
+    """Returns all bytes of a connection that ends at once, or None if it stays open."""
     made.settimeout(0.3)
     try:
         found = rest(made)
@@ -138,7 +138,8 @@ def kept(checks, craqd):
 
 
 def input_ends(checks, craqd):
-    """What was asked before the end is answered and audited, whoever keeps a connection open."""
+    """A server whose input ends answers and audits the requests before the end, also if a client keeps its
+    connection open."""
     with Limited(craqd, "--journal") as server:
         some = [server.connect() for _ in range(5)]
         some[0].sendall(read_of(1, 0) * 100)
@@ -172,12 +173,12 @@ def journals(checks, craqd):
 
 
 def port_of(made):
-    """From where a connection comes."""
+    """Returns the port that a connection comes from."""
     return made.getsockname()[1]
 
 
 def logged(checks, craqd):
-    """What is told of connections and refusals, in order."""
+    """The log reports connections and refusals, in order."""
     with Limited(craqd, "--log", "--most", "1", "--most-leap", str(LEAP)) as server:
         first = server.connect()
         checks.that(is_served(first), "a connection that is told of is served")

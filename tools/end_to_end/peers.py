@@ -20,7 +20,8 @@ KEEPALIVE, UNITS = "02", os.sysconf("SC_CLK_TCK")
 
 
 def timer_of(server_port, client_port):
-    """The kind of a connection's timer at the server's end, and the seconds until it is over; None where there is no such connection."""
+    """Returns the kind of a connection's timer at the server's end, and the seconds until it is
+    over, or None if there is no such connection."""
     with open("/proc/net/tcp", encoding="ascii") as it:
         for line in it:
             words = line.split()
@@ -77,7 +78,8 @@ def urgent(checks, craqd):
 
 
 def pipelining(port, stop):
-    """READERS connections that keep the server busy with strong reads, until they are stopped."""
+    """Opens READERS connections that keep the server busy with strong reads, until they are
+    stopped."""
     made = [socket.create_connection(("127.0.0.1", port), running.PATIENCE) for _ in range(READERS)]
     waiting = select.epoll()
     # The bytes of replies that each has still to get.
@@ -101,7 +103,7 @@ def pipelining(port, stop):
 
 
 def latencies(made, seconds):
-    """The seconds that one read after another takes, in order."""
+    """Returns the seconds that one read after another takes, in order."""
     found, ends = [], time.time() + seconds
     while time.time() < ends:
         began = time.perf_counter()

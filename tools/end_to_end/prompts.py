@@ -1,20 +1,20 @@
-"""craq as a prompt, as a watch and as a load, at a server of their own. Texts are written from docs/use/SERVER.md."""
+"""craq as a prompt, as a watch and as a load, at a server of their own. Texts are written from docs/use/CRAQ.md."""
 import re
 import subprocess
 
 from tools.end_to_end import running
 
-# What is entered, what has to be answered, and what has to be told on standard error.
+# Each row: the line that is entered, its reply, and its text on standard error.
 ENTERED = [
     ("put 7 1 k a", "written 1", None),
     ("  node   3 ", None, None),
     ("read strong k", "read 1 0x61", None),
     ("", None, None),
-    ("put 7 2 k b", "refused 9 1", None),
+    ("put 7 2 k b", "refused 9 1", "craq: updates go to the head of the chain, node 1"),
     ("put 7 x k b", None, "error: expected NUMBER, a number of 64 bits in decimal digits, and found 'x'"),
     ("deliver 1", None, "error: expected a command, as put, read, status or help, and found 'deliver'"),
     ("watch", None, "error: expected a command, as put, read, status or help, and found 'watch'"),
-    ("!1", "refused 9 1", None),
+    ("!1", "refused 9 1", "craq: updates go to the head of the chain, node 1"),
     ("node 1", None, None),
     ("!1", "written 1", None),
     ("!99", None, "error: there is no such line in the history"),
@@ -22,7 +22,7 @@ ENTERED = [
     ("node", None, "error: expected node N"),
     ("node 01", None, "error: expected node N with a number of 32 bits"),
     ("status", running.STATUS, None),
-    (f"put 7 2 k {'v' * 4097}", "refused 2", None),
+    (f"put 7 2 k {'v' * 4097}", "refused 2", "craq: a value has at most 4096 bytes"),
     ("put 7 2 k é", "written 2", None),
     ("read eventual k", "read 2 0xc3a9", None),
 ]
@@ -77,7 +77,7 @@ def load(checks, server, craq):
 
 
 def gone(checks, server, craq):
-    """What a watch does when the server is gone; the server is ended by it."""
+    """Checks that a watch ends with a message when the server is gone. Ends the server."""
     watching = subprocess.Popen(command(server, craq, "watch"), stdin=subprocess.DEVNULL, stdout=subprocess.PIPE, stderr=subprocess.PIPE)
     first = watching.stdout.readline().decode()
     server.kill()

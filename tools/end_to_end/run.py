@@ -10,8 +10,8 @@ import sys
 import time
 
 from tools.checks import Checks
-from tools.end_to_end import (bad_input, clients, commands, endings, faults, limits, peers, prompts, running,
-                              signals)
+from tools.end_to_end import (bad_input, clients, commands, control, endings, faults, human, limits, peers, prompts,
+                              running, signals)
 from tools.sockets import free_port
 
 CONNECTIONS, GARBAGE, WAITING = 1_600, 1_000, 20
@@ -41,7 +41,7 @@ def hostile(checks, server):
 
 
 def served(checks, craqd, craq):
-    """All that is asked of one server, and then its audit."""
+    """Runs all checks of one server, and then its audit."""
     server = running.Server(craqd, running.PLAN, CONNECTIONS)
     try:
         checks.that(server.port, f"craqd tells where it listens: {server.first!r}")
@@ -84,8 +84,10 @@ def main():
     limits.tried(checks, craqd)
     endings.tried(checks, craqd)
     peers.tried(checks, craqd)
+    control.tried(checks, craqd)
     checks.part("signals", signals.tried, craqd)
     checks.part("craq as a prompt", prompts.all_of, craqd, craq)
+    checks.part("craq's verbs for people", human.all_of, craqd, craq, nowhere)
     checks.part("a server", served, craqd, craq)
     print(f"end to end: {checks.passed} passed, {checks.failed} failed, in {time.time() - began:.0f} s")
     return 1 if checks.failed else 0

@@ -22,7 +22,7 @@ STATUS = '{"chains":[{"epoch":1,"members":[1,2,3],"name":"a"},{"epoch":1,"member
 
 
 def text_file(text):
-    """A file with this text or these bytes, which is gone once it is closed."""
+    """Returns a file with this text or these bytes, which is removed once it is closed."""
     file = tempfile.NamedTemporaryFile(prefix="end-to-end-")
     file.write(text if isinstance(text, bytes) else text.encode())
     file.flush()
@@ -42,7 +42,7 @@ def ended(words, space=None):
 
 
 def way(options):
-    """How a craqd with these options serves, as it tells it."""
+    """Yields the parts of the line in which a craqd with these options says in which way it serves."""
     given = dict(zip(options, options[1:]))
     threads, idle = given.get("--threads", "0"), given.get("--idle", "0")
     yield "a thread for each connection" if threads == "0" else f"{threads} threads for all connections"
@@ -54,8 +54,8 @@ def way(options):
 
 
 def served_line(file, port, *way, plan=None):
-    """What craqd tells on standard error of the plan in this file, by a pattern: where it listens, at any port where none is known, the chains,
-    and how it serves them."""
+    """Returns a pattern of the line that craqd prints on standard error for the plan in this file: where it
+    listens, at any port if `port` is None, the chains, and the way of serving."""
     chains = "".join(f" chain {it['name']} of nodes {' '.join(map(str, it['nodes']))}," for it in tomllib.loads(plan or PLAN)["chain"])
     told = re.escape(f"serves {file.name} at 127.0.0.1:0, port "), port or "[0-9]+", re.escape(f":{chains} {', '.join(way)}\n")
     return r"craqd [0-9]+\.[0-9]+\.[0-9]+ {}{}{}".format(*told)
@@ -73,7 +73,7 @@ WAYS = [], ["--threads", "2"]
 
 
 def in_each_way(checks, run):
-    """What a call tells that is made once in each way of serving, in words. A check that fails tells the way."""
+    """Calls `run` once in each way of serving, and returns its results in words. A check that fails names the way."""
     title, told = checks.title, []
     for options in WAYS:
         OPTIONS[:], serves = options, next(way(options))
@@ -111,7 +111,7 @@ class Server:
         return f"127.0.0.1:{self.port}"
 
     def served(self):
-        """What it tells on standard error as it begins, by a pattern."""
+        """Returns a pattern of the line that it prints on standard error as it begins."""
         return served_line(self.file, self.port, *way(["--journal"] * self.journal + OPTIONS), plan=self.plan)
 
     def counts(self, connections=1):
@@ -128,13 +128,13 @@ class Server:
         return made
 
     def seconds(self):
-        """The processor time that it took so far."""
+        """Returns the processor seconds that it took so far."""
         with open(f"/proc/{self.process.pid}/stat", encoding="ascii", errors="replace") as it:
             times = it.read().rpartition(")")[2].split()[11:13]
         return sum(map(int, times)) / 100
 
     def memory(self):
-        """The MiB of memory that it has."""
+        """Returns the MiB of memory that it has."""
         with open(f"/proc/{self.process.pid}/status", encoding="ascii", errors="replace") as it:
             return int(re.search(r"VmRSS:\s+(\d+)", it.read())[1]) / 1024
 

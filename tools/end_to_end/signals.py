@@ -13,12 +13,13 @@ from tools.end_to_end import running
 from tools.end_to_end.clients import example
 
 TOP = os.path.join(os.path.dirname(os.path.realpath(__file__)), "..", "..")
-# How many answers a client has before the signal comes.
+# Number of replies that a client has before the signal comes.
 BEFORE = 50
 
 
 def top_with(craqd, room):
-    """A folder with ./serve in which this craqd is the one that ./build made of the present sources."""
+    """Makes a folder with ./serve in which this craqd is the one that ./build made of the present
+    sources."""
     os.makedirs(f"{room}/tools")
     os.makedirs(f"{room}/crates/craqd/out")
     for name in "serve", "tools/sources", "crates.txt":
@@ -60,7 +61,7 @@ def begins(words, **more):
 
 
 def ends(process):
-    """A server that has not ended is killed, with all that it started."""
+    """Kills a server that has not ended, with all processes that it started."""
     if process.poll() is None:
         os.killpg(process.pid, signal.SIGKILL)
         process.wait()
@@ -101,7 +102,7 @@ def at_once(checks, craqd, plan, ending, options):
 
 
 def tried(checks, craqd):
-    """At each of both signals."""
+    """Tries both signals, and returns what was tried, in words."""
     both = signal.SIGTERM, signal.SIGINT
     with tempfile.TemporaryDirectory(prefix="end-to-end-") as room, running.text_file(running.PLAN) as plan:
         top_with(craqd, room)

@@ -45,10 +45,11 @@ class Help:
 
     def words(self):
         """Returns the commands: of the part Commands, or the first words of lines that the details
-        indent by two."""
+        indent by two below a line that ends with `words:`."""
         if "Commands" in self.parts:
             return [name.split()[0] for name, _ in self.entries("Commands")]
-        listed = "\n".join(self.details).partition("words:\n")[2].partition("\n\n")[0]
+        parts = "\n".join(self.details).split("words:\n")[1:]
+        listed = "\n".join(part.partition("\n\n")[0] for part in parts)
         rows = re.findall(r"^  ([a-z]+(?:, [a-z]+)*)(?= |$)", listed, re.M)
         return [it for row in rows for it in row.split(", ")]
 

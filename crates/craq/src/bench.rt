@@ -26,22 +26,22 @@ const HEADINGS: &str =
 struct Outcome {
     reads: Tally,
     puts: Tally,
-    /// Why a connection was over before the load was.
+    /// The fault that ended a connection before the load was over.
     fault: Option<Fault>,
 }
 
-/// Who asks over one connection of a load.
+/// The client of one connection of a load.
 #[derive(Clone, Copy)]
 struct Caller<'a> {
     asker: Asker<'a>,
     load: Load,
     /// The client whose puts it asks; no other connection has it.
     client: u64,
-    /// When the load is over, by the clock of the system.
+    /// The time at which the load is over, by the clock of the system.
     until: Duration,
 }
 
-/// The time by the clock of the system.
+/// Returns the time by the clock of the system. Fails with `System` if the clock does.
 fn now<R: Clock>(rt: &R) -> Result<Duration, Fault> {
     match rt.monotonic() {
         Ok(now) => Ok(now),
@@ -55,7 +55,8 @@ fn is_read(number: u64, reads: u64) -> bool {
     place.saturating_mul(reads) % 100 < reads
 }
 
-/// The object that a client of the load reads and writes, on chain 0.
+/// Makes the object that a client of the load reads and writes, on chain 0. Fails only when out of
+/// memory.
 fn bench_object(alloc: Global, client: u64) -> Result<ObjectId, Fault> {
     let key = format!(in alloc; "bench-{client}")?;
     match Key::new(alloc, key.as_str().as_bytes()) {
@@ -67,7 +68,7 @@ fn bench_object(alloc: Global, client: u64) -> Result<ObjectId, Fault> {
     }
 }
 
-/// The message that reads the connection's object.
+/// Makes the message that reads the connection's object. Fails only when out of memory.
 fn read_message(alloc: Global, caller: &Caller<'_>) -> Result<ClientMessage, Fault> {
     Ok(ClientMessage::Read {
         node: caller.asker.node,
@@ -77,7 +78,7 @@ fn read_message(alloc: Global, caller: &Caller<'_>) -> Result<ClientMessage, Fau
     })
 }
 
-/// The message of the connection's put of this number, from 1.
+/// Makes the message of the connection's put of this number, from 1. Fails only when out of memory.
 fn put_message(alloc: Global, caller: &Caller<'_>, number: u64) -> Result<ClientMessage, Fault> {
     let object = bench_object(alloc, caller.client)?;
     let (Ok(value), Ok(number)) = (
@@ -97,8 +98,8 @@ fn put_message(alloc: Global, caller: &Caller<'_>, number: u64) -> Result<Client
     })
 }
 
-/// The microseconds from one time to another; 0 where it is not later.
-fn microseconds(from: Duration, to: Duration) -> u64 {
+/// Returns the microseconds from one time to another; 0 if it is not later.
+pub fn microseconds(from: Duration, to: Duration) -> u64 {
     let took = to.saturating_sub(from).as_micros();
     if took < u128::from(u64::MAX) {
         took as u64
@@ -107,7 +108,7 @@ fn microseconds(from: Duration, to: Duration) -> u64 {
     }
 }
 
-/// Counts a reply that took so long, or a refusal.
+/// Counts a reply with its time, or a refusal.
 fn count(tally: &mut Tally, is_refused: bool, microseconds: u64) {
     if is_refused {
         tally.refuse()
@@ -116,7 +117,7 @@ fn count(tally: &mut Tally, is_refused: bool, microseconds: u64) {
     }
 }
 
-/// The message of the connection's put of this number, or that of a read where there is none.
+/// Makes the message of the connection's put of this number, or that of a read if there is none.
 fn message_of(
     alloc: Global,
     caller: &Caller<'_>,
@@ -128,7 +129,7 @@ fn message_of(
     }
 }
 
-/// Asks what a message says over a connection. Whether that is refused, and the connection.
+/// Sends a message over a connection. Returns whether the reply is a refusal, and the connection.
 fn ask_over(
     alloc: Global,
     stream: TcpStream,
@@ -142,7 +143,7 @@ fn ask_over(
     Ok((is_refused, stream))
 }
 
-/// One request after another over a connection, until the load is over.
+/// Sends one request after another over a connection, until the load is over.
 fn run_connection<R>(
     rt: &R,
     caller: &Caller<'_>,
@@ -262,7 +263,7 @@ where
     })
 }
 
-/// A number that no earlier load began with: the nanoseconds since 1970.
+/// Returns a number that no earlier load began with: the nanoseconds since 1970.
 fn fresh_client<R: Clock>(rt: &R) -> Result<u64, Fault> {
     match rt.since_1970() {
         Ok(time) => Ok(
@@ -274,9 +275,9 @@ fn fresh_client<R: Clock>(rt: &R) -> Result<u64, Fault> {
     }
 }
 
-/// Asks a node for a number of seconds over a number of connections, one request each under way,
-/// and prints how many were answered and refused, and within which time half, 95 and 99 of 100 and
-/// all of the answers came. The puts are of clients of their own.
+/// Puts a load on a node for a number of seconds, over a number of connections with one request
+/// each under way. Prints the counts of answers and refusals, and the times within which half, 95
+/// and 99 of 100 and all of the answers came. Each connection puts as a client of its own.
 pub fn bench<R>(rt: R, asker: &Asker<'_>, load: &Load, has_progress: bool) -> Result<u8, Fault>
 where
     R: AllocGlobal + Print + Eprint + Clock + Threads + Wait,

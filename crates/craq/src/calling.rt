@@ -2,6 +2,7 @@
 ghost use Rattle.std.specs.Prelude.{◌≡◌};
 
 use crate::fault::Fault;
+use crate::link::{Failure, Link};
 use craq_cli::Request;
 use craq_frames::{ClientMessage, ClientReply};
 use craq_front::{Stream, exchange};
@@ -12,10 +13,10 @@ use std::alloc::{AllocError, Global};
 use std::io::ErrorKind;
 use std::net::{Net, TcpListener, TcpStream};
 
-/// Who is asked, and the pass that is shown.
+/// The node that is asked, and the pass that is shown.
 #[derive(Clone, Copy, Debug)]
 pub struct Asker<'a> {
-    /// Where the server listens: a host and a port.
+    /// The address of the server: a host and a port.
     pub address: &'a str,
     /// The node that is asked.
     pub node: NodeId,
@@ -43,9 +44,11 @@ pub struct Shown {
     pub text: String,
     /// The pass that the reply came with; none of a refusal.
     pub pass: Option<Pass>,
+    /// The refusal, if it is one.
+    pub refusal: Option<Refusal>,
 }
 
-/// The message that asks a node with this pass.
+/// Makes the message of a request to a node, with this pass.
 fn message_of(node: NodeId, pass: Pass, ask: Ask) -> ClientMessage {
     match ask {
         Ask::Update(update) => ClientMessage::Update { node, pass, update },
@@ -58,8 +61,8 @@ fn message_of(node: NodeId, pass: Pass, ask: Ask) -> ClientMessage {
     }
 }
 
-/// The message that a command line asks for, or why it is refused before it is sent.
-fn message_in(
+/// Makes the message that a command line asks for, or returns its refusal before it is sent.
+pub fn message_in(
     alloc: Global,
     node: NodeId,
     pass: Pass,
@@ -74,14 +77,18 @@ fn message_in(
     }
 }
 
-/// The text of a refusal.
+/// Makes the text of a refusal. Fails only when out of memory.
 fn refused(alloc: Global, refusal: &Refusal) -> Result<Shown, AllocError> {
     let mut text = String::new(alloc);
     print_refusal(&mut text, refusal)?;
-    Ok(Shown { text, pass: None })
+    Ok(Shown {
+        text,
+        pass: None,
+        refusal: Some(*refusal),
+    })
 }
 
-/// The text of an answer that came with a pass.
+/// Makes the text of an answer that came with a pass. Fails only when out of memory.
 fn answered(alloc: Global, answer: &Answer, pass: Pass) -> Result<Shown, AllocError> {
     let mut text = String::new(alloc);
     print_answer(&mut text, answer)?;
@@ -89,20 +96,22 @@ fn answered(alloc: Global, answer: &Answer, pass: Pass) -> Result<Shown, AllocEr
     Ok(Shown {
         text,
         pass: Some(pass),
+        refusal: None,
     })
 }
 
-/// The text of a status, which bears no pass: it stays the one that was shown.
+/// Makes the text of a status. It has no pass, so the pass that was shown stays.
 fn reported(alloc: Global, status: &str, pass: Pass) -> Result<Shown, AllocError> {
     let mut text = String::from_str(alloc, status)?;
     text.push_str("\n")?;
     Ok(Shown {
         text,
         pass: Some(pass),
+        refusal: None,
     })
 }
 
-/// The text of a reply to a message that showed this pass.
+/// Makes the text of a reply to a message that showed this pass. Fails only when out of memory.
 fn shown_of(alloc: Global, reply: ClientReply, pass: Pass) -> Result<Shown, AllocError> {
     match reply {
         ClientReply::Update { pass, reply } => answered(alloc, &Answer::Update(reply), pass),
@@ -116,7 +125,7 @@ fn shown_of(alloc: Global, reply: ClientReply, pass: Pass) -> Result<Shown, Allo
     }
 }
 
-/// A connection to the server.
+/// Connects to the server.
 pub fn connection<R>(rt: &R, address: &str) -> Result<TcpStream, Fault>
 where
     R: Net<Listener = TcpListener, Stream = TcpStream>,
@@ -128,7 +137,7 @@ where
     }
 }
 
-/// Why an exchange gave no reply.
+/// Returns the fault of an exchange that gave no reply.
 fn fault_of(refusal: Refusal) -> Fault {
     match refusal {
         Refusal::Memory => Fault::Memory,
@@ -136,7 +145,7 @@ fn fault_of(refusal: Refusal) -> Fault {
     }
 }
 
-/// Sends a message over a connection, and gives the reply with the connection.
+/// Sends a message over a connection, and returns the reply with the connection.
 pub fn exchange_over(
     alloc: Global,
     stream: TcpStream,
@@ -160,6 +169,43 @@ where
     let stream = connection(rt, address)?;
     let (reply, _stream) = exchange_over(rt.alloc(), stream, message)?;
     Ok(reply)
+}
+
+/// Prints a refusal in words on standard error, if it is one.
+pub fn explain<R: Eprint>(rt: &R, shown: &Shown) -> Result<(), Fault> {
+    let Some(refusal) = shown.refusal else {
+        return Ok(());
+    };
+    match eprintln!(rt; "craq: {refusal}") {
+        Ok(()) => Ok(()),
+        Err(error) => Err(Fault::CannotPrint(error)),
+    }
+}
+
+/// Asks over a connection that is kept, and gives what is to be printed of the answer. What is
+/// refused whatever the server says is not sent.
+pub fn shown_over<R>(
+    rt: &R,
+    link: &mut Link<'_>,
+    asker: &Asker<'_>,
+    request: &Request,
+) -> Result<Shown, Fault>
+where
+    R: AllocGlobal + Net<Listener = TcpListener, Stream = TcpStream>,
+{
+    match message_in(rt.alloc(), asker.node, asker.pass, request) {
+        Ok(message) => {
+            let replied = link.ask(rt, &message);
+            drop(message);
+            match replied {
+                Ok(reply) => Ok(shown_of(rt.alloc(), reply, asker.pass)?),
+                Err(Failure::Memory) => Err(Fault::Memory),
+                Err(_) => Err(Fault::Connection),
+            }
+        }
+        Err(Refusal::Memory) => Err(Fault::Memory),
+        Err(refusal) => Ok(refused(rt.alloc(), &refusal)?),
+    }
 }
 
 /// Asks over a connection of its own, and gives what is to be printed of the answer. What is

@@ -1,26 +1,53 @@
 //! Why `craq` ends without an answer once its command line was read, with the text and the status
-//! of each reason; for `main`, `calling`, `shell`, `watch` and `bench`.
-use craq_cli::{CANNOT_PRINT, report_memory};
-use std::alloc::AllocError;
+//! of each reason; for the modules of `craq`.
+use craq_cli::{BAD_INPUT, CANNOT_PRINT, report_memory};
+use std::alloc::{AllocError, AllocFailed};
 use std::io;
 
 /// The status after a refusal, and where a growth was refused.
 pub const REFUSED: u8 = 3;
 
 /// The status where there is no connection, or it broke.
-const NO_CONNECTION: u8 = 4;
+pub const NO_CONNECTION: u8 = 4;
 
-/// Why nothing is answered.
+/// Where a client's id was looked for.
+#[derive(Clone, Copy, Debug, PartialEq, Eq)]
+pub enum IdSource {
+    /// The variable `CRAQ_CLIENT`.
+    Variable,
+    /// The file in the state folder.
+    File,
+}
+
+/// Reasons for no answer.
 #[derive(Clone, Copy, Debug)]
 pub enum Fault {
     /// A growth was refused.
     Memory,
     /// There is no connection, or it broke.
     Connection,
-    /// Nothing can be read from the input, or the clock gives no time.
+    /// The input cannot be read, or the clock gives no time.
     System,
     /// The output takes no text.
     CannotPrint(io::Error),
+    /// A client's id was no number of 64 bits.
+    BadId(IdSource),
+}
+
+impl<T: Drop> From<AllocFailed<T>> for Fault {
+    fn from(_error: AllocFailed<T>) -> Fault {
+        Fault::Memory
+    }
+}
+
+impl IdSource {
+    /// Returns the place, in words.
+    const fn place(self) -> &'static str {
+        match self {
+            IdSource::Variable => "the variable CRAQ_CLIENT",
+            IdSource::File => "the file jilsdau/client in the state folder, ~/.local/state,",
+        }
+    }
 }
 
 impl From<AllocError> for Fault {
@@ -43,6 +70,11 @@ impl Fault {
                 Ok(CANNOT_PRINT)
             }
             Fault::CannotPrint(error) => Err(error),
+            Fault::BadId(source) => {
+                let place = source.place();
+                eprintln!(rt; "craq: {place} holds no client id, a number of 64 bits")?;
+                Ok(BAD_INPUT)
+            }
         }
     }
 }

@@ -1,44 +1,57 @@
-//! The program with which people and scripts ask a server: `craq --connect ADDRESS --node N [--pass
-//! P] [COMMAND ..]`.
+//! The program with which people and scripts ask a server: `craq [OPTION ..] [VERB ..]`, and `craq
+//! --connect ADDRESS --node N [--pass P] [COMMAND ..]`.
 #![tactic(auto)]
 
+mod asking;
 mod bench;
 mod calling;
+mod chains;
 mod fault;
+mod health;
+mod identity;
+mod link;
+mod output;
+mod people;
+mod quoting;
 mod session;
 mod shell;
 mod tally;
 mod watch;
 
-use calling::{Asker, Shown, shown_for};
+use asking::known_chains;
+use calling::{Asker, Shown, explain, shown_for};
+use chains::members_of;
 use craq_cli::{
-    CallLine, Request, Task, report_failure, report_memory, report_no_text, report_words, words_of,
+    CallLine, CommandFault, Request, Task, VerbLine, has_raw_bytes, raw_words_of, report_failure,
+    report_memory, report_no_text, report_words, words_of,
 };
+use craq_names::{ChainId, NodeId};
 use fault::{Fault, REFUSED};
+use identity::default_address;
+use link::{Failure, Link};
+use people::{Setting, run_verb};
+use shell::Terminals;
 use std::env::Env;
 use std::io;
 use std::io::{ErrorKind, IsTerminal};
 use std::net::{Net, TcpListener, TcpStream};
 use std::process::ExitCode;
+use std::random::RandomSource;
+use std::rt::Files;
 use std::sync::Wait;
 use std::thread::Threads;
 use std::time::Clock;
-
-/// Which standard streams are terminals.
-#[derive(Clone, Copy)]
-struct Terminals {
-    input: bool,
-    errors: bool,
-}
 
 /// Asks once, and prints the answer with its pass on a line of its own, or the refusal. Returns the
 /// status.
 fn ask_once<R>(rt: &R, asker: &Asker<'_>, request: &Request) -> Result<u8, Fault>
 where
-    R: AllocGlobal + Print + Net<Listener = TcpListener, Stream = TcpStream>,
+    R: AllocGlobal + Print + Eprint + Net<Listener = TcpListener, Stream = TcpStream>,
 {
     let shown = shown_for(rt, asker, request)?;
-    print_shown(rt, &shown)
+    let status = print_shown(rt, &shown)?;
+    explain(rt, &shown)?;
+    Ok(status)
 }
 
 /// Prints an answer with its pass on a line of its own, or a refusal. Returns the status.
@@ -57,29 +70,103 @@ fn print_shown<R: Print>(rt: &R, shown: &Shown) -> Result<u8, Fault> {
     }
 }
 
-/// Does what a command line asks for. Returns the status.
-fn run_line<R>(rt: R, terminals: Terminals, line: &CallLine<'_>) -> Result<u8, Fault>
+/// Returns the node of a line: the one that it names, else the head of chain 0.
+fn node_of<R>(rt: &R, link: &mut Link<'_>, node: Option<NodeId>) -> Result<NodeId, Fault>
 where
-    R: AllocGlobal + Input + Print + Eprint + Clock + Threads + Wait,
+    R: AllocGlobal + Clock + Wait + Net<Listener = TcpListener, Stream = TcpStream>,
+{
+    if let Some(node) = node {
+        return Ok(node);
+    }
+    let chains = match known_chains(rt, link) {
+        Ok(chains) => chains,
+        Err(Failure::Memory) => return Err(Fault::Memory),
+        Err(_) => return Err(Fault::Connection),
+    };
+    match members_of(chains.as_slice(), ChainId::new(0)) {
+        Ok([head, ..]) => Ok(*head),
+        _ => Err(Fault::Connection),
+    }
+}
+
+/// Runs a verb for people. Returns the status.
+fn run_person<R>(
+    rt: &R,
+    terminals: Terminals,
+    address: &str,
+    line: &CallLine<'_>,
+    verb: &VerbLine<'_>,
+) -> Result<u8, Fault>
+where
+    R: AllocGlobal + Env + Files + RandomSource + Input + Print + Eprint + Clock + Wait,
+    R: Net<Listener = TcpListener, Stream = TcpStream>,
+{
+    let mut link = Link::new(address);
+    let mut setting = Setting {
+        node: line.node,
+        pass: line.pass,
+        at_terminal: terminals.output,
+        reads_input: true,
+    };
+    run_verb(rt, &mut link, &mut setting, verb)
+}
+
+/// Runs what asks one node: a command or a tool. Returns the status.
+fn run_asker<R>(
+    rt: R,
+    terminals: Terminals,
+    address: &str,
+    line: &CallLine<'_>,
+) -> Result<u8, Fault>
+where
+    R: AllocGlobal + Env + Files + RandomSource + Input + Print + Eprint + Clock + Threads + Wait,
     R: Net<Listener = TcpListener, Stream = TcpStream> + Copy + Drop + Send + Sync + 'static,
 {
+    let mut link = Link::new(address);
     let asker = Asker {
-        address: line.address,
-        node: line.node,
+        address,
+        node: node_of(&rt, &mut link, line.node)?,
         pass: line.pass,
     };
     match &line.task {
         Task::Ask(request) => ask_once(&rt, &asker, request),
-        Task::Watch(seconds) => watch::watch(&rt, line.address, *seconds),
         Task::Bench(load) => bench::bench(rt, &asker, load, terminals.errors),
-        Task::Shell => shell::shell(&rt, &asker, terminals.input),
+        _ => shell::shell(&rt, link, &asker, terminals),
+    }
+}
+
+/// Does what a command line asks for at an address. Returns the status.
+fn run_at<R>(rt: R, terminals: Terminals, address: &str, line: &CallLine<'_>) -> Result<u8, Fault>
+where
+    R: AllocGlobal + Env + Files + RandomSource + Input + Print + Eprint + Clock + Threads + Wait,
+    R: Net<Listener = TcpListener, Stream = TcpStream> + Copy + Drop + Send + Sync + 'static,
+{
+    match &line.task {
+        Task::Verb(verb) => run_person(&rt, terminals, address, line, verb),
+        Task::Watch(seconds) => watch::watch(&rt, address, *seconds),
+        _ => run_asker(rt, terminals, address, line),
+    }
+}
+
+/// Does what a command line asks for. Returns the status.
+fn run_line<R>(rt: R, terminals: Terminals, line: &CallLine<'_>) -> Result<u8, Fault>
+where
+    R: AllocGlobal + Env + Files + RandomSource + Input + Print + Eprint + Clock + Threads + Wait,
+    R: Net<Listener = TcpListener, Stream = TcpStream> + Copy + Drop + Send + Sync + 'static,
+{
+    match line.address {
+        Some(address) => run_at(rt, terminals, address, line),
+        None => {
+            let address = default_address(&rt)?;
+            run_at(rt, terminals, address.as_str(), line)
+        }
     }
 }
 
 /// Does what a command line asks for, and prints what was wrong. Returns the status.
 fn run_and_report<R>(rt: R, terminals: Terminals, line: &CallLine<'_>) -> io::Result<u8>
 where
-    R: AllocGlobal + Input + Print + Eprint + Clock + Threads + Wait,
+    R: AllocGlobal + Env + Files + RandomSource + Input + Print + Eprint + Clock + Threads + Wait,
     R: Net<Listener = TcpListener, Stream = TcpStream> + Copy + Drop + Send + Sync + 'static,
 {
     match run_line(rt, terminals, line) {
@@ -90,21 +177,21 @@ where
 
 /// Prints what is wrong with a command line, or the help that it asks for. Words of a command that
 /// fit no script line are `script line 1`, then what was expected. Returns the status.
-fn report_unread<R: Print + Eprint>(rt: &R, fault: &craq_cli::Fault) -> io::Result<u8> {
+fn report_unread<R: Print + Eprint>(rt: &R, fault: &CommandFault) -> io::Result<u8> {
     match fault {
-        craq_cli::Fault::Words(error) => report_words(rt, error, REFUSED),
-        craq_cli::Fault::Command(error) => {
+        CommandFault::Words(error) => report_words(rt, error, REFUSED),
+        CommandFault::Command(error) => {
             eprintln!(rt; "script line 1")?;
             report_words(rt, error, REFUSED)
         }
-        craq_cli::Fault::Memory => report_memory(rt, REFUSED),
+        CommandFault::Memory => report_memory(rt, REFUSED),
     }
 }
 
 /// Does what these words of a command line ask for, and prints what was wrong. Returns the status.
 fn run_words<'a, R>(rt: R, terminals: Terminals, words: &'a [&'a str]) -> io::Result<u8>
 where
-    R: AllocGlobal + Input + Print + Eprint + Clock + Threads + Wait,
+    R: AllocGlobal + Env + Files + RandomSource + Input + Print + Eprint + Clock + Threads + Wait,
     R: Net<Listener = TcpListener, Stream = TcpStream> + Copy + Drop + Send + Sync + 'static,
 {
     match CallLine::read(rt.alloc(), words) {
@@ -113,23 +200,42 @@ where
     }
 }
 
-/// Does what these words of a command line ask for. Returns the status.
-fn run_texts<R>(rt: R, terminals: Terminals, words: &[String]) -> io::Result<u8>
-where
-    R: AllocGlobal + Input + Print + Eprint + Clock + Threads + Wait,
-    R: Net<Listener = TcpListener, Stream = TcpStream> + Copy + Drop + Send + Sync + 'static,
-{
+/// Returns the words as slices. Fails only when out of memory.
+fn texts_of<'a, R: AllocGlobal>(rt: &R, words: &'a [String]) -> io::Result<Vec<&'a str>> {
     let mut texts = Vec::new(rt.alloc());
     for word in words {
         texts.push(word.as_str())?;
     }
+    Ok(texts)
+}
+
+/// Does what these words of a command line ask for. Returns the status.
+fn run_texts<R>(rt: R, terminals: Terminals, words: &[String]) -> io::Result<u8>
+where
+    R: AllocGlobal + Env + Files + RandomSource + Input + Print + Eprint + Clock + Threads + Wait,
+    R: Net<Listener = TcpListener, Stream = TcpStream> + Copy + Drop + Send + Sync + 'static,
+{
+    let texts = texts_of(&rt, words)?;
     run_words(rt, terminals, texts.as_slice())
 }
 
+/// Returns true if the words are those of a verb for people.
+fn is_person<R: AllocGlobal>(rt: &R, words: &[String]) -> io::Result<bool> {
+    let texts = texts_of(rt, words)?;
+    let read = CallLine::read(rt.alloc(), texts.as_slice());
+    Ok(matches!(
+        &read,
+        Ok(CallLine {
+            task: Task::Verb(_),
+            ..
+        })
+    ))
+}
+
 /// Does what the command line asks for, where its words are text. Returns the status.
-fn run<R>(rt: R, terminals: Terminals) -> io::Result<u8>
+fn run_plain<R>(rt: R, terminals: Terminals) -> io::Result<u8>
 where
-    R: AllocGlobal + Env + Input + Print + Eprint + Clock + Threads + Wait,
+    R: AllocGlobal + Env + Files + RandomSource + Input + Print + Eprint + Clock + Threads + Wait,
     R: Net<Listener = TcpListener, Stream = TcpStream> + Copy + Drop + Send + Sync + 'static,
 {
     match words_of(&rt) {
@@ -139,9 +245,26 @@ where
     }
 }
 
+/// Does what the command line asks for. The words of a verb for people are any bytes, those of
+/// other commands are text. Returns the status.
+fn run<R>(rt: R, terminals: Terminals) -> io::Result<u8>
+where
+    R: AllocGlobal + Env + Files + RandomSource + Input + Print + Eprint + Clock + Threads + Wait,
+    R: Net<Listener = TcpListener, Stream = TcpStream> + Copy + Drop + Send + Sync + 'static,
+{
+    let words = raw_words_of(&rt)?;
+    let is_raw = words.iter().any(|word| has_raw_bytes(word.as_str()));
+    if is_raw && is_person(&rt, words.as_slice())? {
+        return run_texts(rt, terminals, words.as_slice());
+    }
+    drop(words);
+    run_plain(rt, terminals)
+}
+
 fn main(rt: HostRuntime) -> ExitCode {
     let terminals = Terminals {
         input: rt.stdin().is_terminal(),
+        output: rt.stdout().is_terminal(),
         errors: rt.stderr().is_terminal(),
     };
     match run(rt, terminals) {

@@ -1,22 +1,22 @@
-//! `Session`: what a prompt remembers, which is whom it asks, the largest pass that it was given,
-//! and the lines that were entered; for `shell`.
+//! `Session`: the state of a prompt: the node that it asks, the largest pass that it was given, and
+//! the lines that were entered; for `shell`.
 ghost use Rattle.std.specs.Prelude.{◌≡◌, ◌++◌, [], ◌∷◌, max, OnOk, OnErr};
 
 use crate::calling::Asker;
 use craq_names::{NodeId, Pass};
 use std::alloc::{AllocError, Global};
 
-/// The memory of a prompt.
+/// The state of a prompt.
 #[derive(Drop)]
 pub struct Session<'a> {
-    /// Who is asked, with the largest pass that was given so far.
+    /// The node that is asked, with the largest pass that a reply gave so far.
     asker: Asker<'a>,
-    /// The lines that were entered, the first of them first.
+    /// The lines that were entered, in order.
     lines: Vec<String>,
 }
 
 impl<'a> Session<'a> {
-    /// Nothing was entered yet.
+    /// Makes a prompt without lines. Takes no memory.
     pub fn new(alloc: Global, asker: &Asker<'a>) -> Self
         ensures asker { result.asker ≡ asker.now }
         ensures lines { result.lines.items ≡ [] }
@@ -27,14 +27,14 @@ impl<'a> Session<'a> {
         }
     }
 
-    /// Who is asked, and the pass that is shown.
+    /// Returns the node that is asked, and the pass that is shown.
     pub fn asker(&self) -> Asker<'a>
         ensures { result ≡ self.now.asker }
     {
         self.asker.same()
     }
 
-    /// From now on this node is asked.
+    /// Sets the node that is asked from now on.
     pub fn ask_node(&mut self, node: NodeId)
         ensures asker { self.new.asker ≡ record self.old.asker { node = node } }
         ensures lines { self.new.lines ≡ self.old.lines }
@@ -42,7 +42,7 @@ impl<'a> Session<'a> {
         self.asker.node = node;
     }
 
-    /// A reply came with this pass: the larger one is shown from now on.
+    /// Notes the pass of a reply. The larger one is shown from now on.
     pub fn note_pass(&mut self, pass: Pass)
         ensures asker { self.new.asker ≡ record self.old.asker { pass = max self.old.asker.pass pass } }
         ensures lines { self.new.lines ≡ self.old.lines }
@@ -60,7 +60,7 @@ impl<'a> Session<'a> {
         Ok(())
     }
 
-    /// The lines that were entered, the first of them first.
+    /// Returns the lines that were entered, in order.
     pub fn lines(&self) -> &[String]
         ensures { result.now ≡ self.now.lines.items }
     {

@@ -1,17 +1,33 @@
 //! `craq shell`: a prompt that asks one command after another, and shows each the passes of those
 //! before; called by `main`.
-use crate::calling::{Asker, Shown, shown_for};
-use crate::fault::Fault;
+use crate::calling::{Asker, Shown, explain, shown_over};
+use crate::fault::{Fault, IdSource, REFUSED};
+use crate::link::Link;
+use crate::people::{Setting, run_verb};
 use crate::session::Session;
-use craq_cli::{BadWord, Request, UsageError, VERSION, request_of};
+use craq_cli::{
+    BadWord, CallLine, CommandFault, Request, Task, UsageError, VERSION, is_verb, report_words,
+    request_of,
+};
 use craq_names::NodeId;
 use craq_script::{GREATEST_NODE, number_up_to};
 use std::alloc::{AllocError, Global};
+use std::env::Env;
 use std::io::ErrorKind;
 use std::net::{Net, TcpListener, TcpStream};
+use std::random::RandomSource;
+use std::rt::Files;
+use std::sync::Wait;
+use std::time::Clock;
 
 /// The text of `help`.
-const HELP: &str = "put CLIENT NUMBER OBJECT VALUE             give the object a value
+const HELP: &str = "set KEY VALUE                              give the object a value
+get KEY                                    its value; with --json, --hex, --decimal
+cas KEY VERSION VALUE                      write, if the object has the version
+add, sub KEY [BY]                          count the number in the object's 8 bytes up or down
+txn ITEM ..                                a transaction: c:KEY:VERSION, r:KEY, w:KEY:VALUE
+members, health                            the chains; the times of one, --chain NAME
+put CLIENT NUMBER OBJECT VALUE             give the object a value
 tas CLIENT NUMBER OBJECT VERSION VALUE     the same, if the object has the version
 append, prepend CLIENT NUMBER OBJECT VALUE join the value to the end or the front
 inc, dec CLIENT NUMBER OBJECT BY           count an object of 8 bytes up or down
@@ -25,6 +41,25 @@ history                                    the lines so far, by number
 help, quit                                 this text; the end
 ";
 
+/// Which standard streams are terminals.
+#[derive(Clone, Copy)]
+pub struct Terminals {
+    pub input: bool,
+    pub output: bool,
+    pub errors: bool,
+}
+
+/// An open prompt.
+#[derive(Drop)]
+struct Open<'a> {
+    /// Who is asked, the pass, and the lines so far.
+    session: Session<'a>,
+    /// The connection.
+    link: Link<'a>,
+    /// True if standard output is a terminal.
+    at_terminal: bool,
+}
+
 /// A line of the prompt, read.
 #[derive(Clone, Copy, Debug, PartialEq, Eq)]
 enum Said {
@@ -35,6 +70,7 @@ enum Said {
     Pass,
     Node,
     Command,
+    Verb,
 }
 
 /// Reads a line by its words.
@@ -45,6 +81,9 @@ fn meaning_of(words: &[&str]) -> Said {
     let word = first.as_bytes();
     if word == b"node".as_slice() {
         return Said::Node;
+    }
+    if is_verb(first) {
+        return Said::Verb;
     }
     if words.len() > 1 {
         return Said::Command;
@@ -80,46 +119,118 @@ fn print_wrong<R: Eprint>(rt: &R, reported: &str) -> Result<(), Fault> {
     }
 }
 
-/// Asks what the words of a command ask for, and prints the answer or what was wrong. Only where
-/// the output takes no text or there is no memory the prompt is over.
-fn ask<R>(rt: &R, session: &mut Session<'_>, words: &[&str]) -> Result<(), Fault>
+/// Prints what is wrong with the options of a verb, or the help that they ask for.
+fn print_unread<R: Print + Eprint>(rt: &R, fault: &CommandFault) -> Result<(), Fault> {
+    let (CommandFault::Words(error) | CommandFault::Command(error)) = fault else {
+        return Err(Fault::Memory);
+    };
+    match report_words(rt, error, REFUSED) {
+        Ok(_) => Ok(()),
+        Err(error) => Err(Fault::CannotPrint(error)),
+    }
+}
+
+/// Runs a verb for people that was parsed, and shows its pass from now on.
+fn run_call<R>(rt: &R, open: &mut Open<'_>, line: &CallLine<'_>) -> Result<(), Fault>
+where
+    R: AllocGlobal + Env + Files + RandomSource + Input + Print + Eprint + Clock + Wait,
+    R: Net<Listener = TcpListener, Stream = TcpStream>,
+{
+    let Task::Verb(verb) = &line.task else {
+        return Ok(());
+    };
+    if line.address.is_some() {
+        return print_wrong(
+            rt,
+            "the prompt stays at its server: --connect stands before it",
+        );
+    }
+    let mut setting = Setting {
+        node: line.node,
+        pass: open.session.asker().pass.join(line.pass),
+        at_terminal: open.at_terminal,
+        reads_input: false,
+    };
+    let ran = run_verb(rt, &mut open.link, &mut setting, verb);
+    open.session.note_pass(setting.pass);
+    match ran {
+        Ok(_status) => Ok(()),
+        Err(Fault::BadId(source)) => print_bad_id(rt, source),
+        Err(fault) => Err(fault),
+    }
+}
+
+/// Prints that what should be a client's id is none.
+fn print_bad_id<R: Eprint>(rt: &R, source: IdSource) -> Result<(), Fault> {
+    match Fault::BadId(source).report(rt) {
+        Ok(_status) => Ok(()),
+        Err(error) => Err(Fault::CannotPrint(error)),
+    }
+}
+
+/// Runs a verb for people.
+fn run_verb_line<R>(rt: &R, open: &mut Open<'_>, words: &[&str]) -> Result<(), Fault>
+where
+    R: AllocGlobal + Env + Files + RandomSource + Input + Print + Eprint + Clock + Wait,
+    R: Net<Listener = TcpListener, Stream = TcpStream>,
+{
+    let mut whole = Vec::new(rt.alloc());
+    whole.push("craq")?;
+    for word in words {
+        whole.push(*word)?;
+    }
+    match CallLine::read_verb(rt.alloc(), whole.as_slice()) {
+        Ok(line) => run_call(rt, open, &line),
+        Err(fault) => print_unread(rt, &fault),
+    }
+}
+
+/// Sends the request of a command's words, and prints the answer or the fault. Fails, and ends the
+/// prompt, only if the output takes no text or when out of memory.
+fn ask<R>(rt: &R, open: &mut Open<'_>, words: &[&str]) -> Result<(), Fault>
 where
     R: AllocGlobal + Print + Eprint + Net<Listener = TcpListener, Stream = TcpStream>,
 {
-    match request_of(rt.alloc(), session.asker().node, words) {
-        Ok(request) => ask_for(rt, session, &request),
+    match request_of(rt.alloc(), open.session.asker().node, words) {
+        Ok(request) => ask_for(rt, open, &request),
         Err(UsageError::Memory) => Err(Fault::Memory),
         Err(UsageError::Bad(bad)) => print_bad(rt, &bad, words),
     }
 }
 
-/// Asks, and prints the answer, or that there is no connection.
-fn ask_for<R>(rt: &R, session: &mut Session<'_>, request: &Request) -> Result<(), Fault>
+/// Sends a request, and prints the answer, or that there is no connection.
+fn ask_for<R>(rt: &R, open: &mut Open<'_>, request: &Request) -> Result<(), Fault>
 where
     R: AllocGlobal + Print + Eprint + Net<Listener = TcpListener, Stream = TcpStream>,
 {
-    match shown_for(rt, &session.asker(), request) {
-        Ok(shown) => print_shown(rt, session, &shown),
+    let asker = open.session.asker();
+    match shown_over(rt, &mut open.link, &asker, request) {
+        Ok(shown) => print_shown(rt, &mut open.session, &shown),
         Err(Fault::Connection) => print_wrong(rt, "connection"),
         Err(fault) => Err(fault),
     }
 }
 
 /// Prints an answer, and shows its pass from now on.
-fn print_shown<R: Print>(rt: &R, session: &mut Session<'_>, shown: &Shown) -> Result<(), Fault> {
+fn print_shown<R: Print + Eprint>(
+    rt: &R,
+    session: &mut Session<'_>,
+    shown: &Shown,
+) -> Result<(), Fault> {
     if let Some(pass) = shown.pass {
         session.note_pass(pass);
     }
-    print_text(rt, shown.text.as_str())
+    print_text(rt, shown.text.as_str())?;
+    explain(rt, shown)
 }
 
-/// Prints which word of a line is not what is expected.
+/// Prints the word of a line that is not the one expected there.
 fn print_bad<R: AllocGlobal + Eprint>(rt: &R, bad: &BadWord, words: &[&str]) -> Result<(), Fault> {
     let reported = bad.reported(rt.alloc(), words)?;
     print_wrong(rt, reported.as_str())
 }
 
-/// From now on the node that the words name is asked.
+/// Sets the node that is asked from now on to the one that the words name.
 fn ask_node<R: Eprint>(rt: &R, session: &mut Session<'_>, words: &[&str]) -> Result<(), Fault> {
     let [_, word] = *words else {
         return print_wrong(rt, "expected node N");
@@ -154,7 +265,7 @@ fn print_pass<R: Print>(rt: &R, session: &Session<'_>) -> Result<(), Fault> {
     }
 }
 
-/// The line that `!K` names; none where there is no such line.
+/// Returns the line that `!K` names, or `None` if there is no such line.
 fn line_of_number<'b>(session: &'b Session<'_>, number: &str) -> Option<&'b String> {
     let Ok(number) = number_up_to(u64::MAX, number.as_bytes()) else {
         return None;
@@ -165,8 +276,8 @@ fn line_of_number<'b>(session: &'b Session<'_>, number: &str) -> Option<&'b Stri
     session.lines().get((number - 1) as usize)
 }
 
-/// The line that was meant by one that was entered, without blanks at its ends; none where it names
-/// a line that there is not.
+/// Returns the line that an entered one means, without blanks at its ends, or `None` if it names a
+/// line that there is not.
 fn meant(
     alloc: Global,
     session: &Session<'_>,
@@ -182,50 +293,53 @@ fn meant(
     }
 }
 
-/// Does what the words of a line say. Returns whether the prompt is over.
-fn run_words<R>(rt: &R, session: &mut Session<'_>, words: &[&str]) -> Result<bool, Fault>
+/// Runs the words of a line. Returns whether the prompt is over.
+fn run_words<R>(rt: &R, open: &mut Open<'_>, words: &[&str]) -> Result<bool, Fault>
 where
-    R: AllocGlobal + Print + Eprint + Net<Listener = TcpListener, Stream = TcpStream>,
+    R: AllocGlobal + Env + Files + RandomSource + Input + Print + Eprint + Clock + Wait,
+    R: Net<Listener = TcpListener, Stream = TcpStream>,
 {
     match meaning_of(words) {
         Said::Nothing => {}
         Said::Help => print_text(rt, HELP)?,
         Said::Quit => return Ok(true),
-        Said::History => print_history(rt, session)?,
-        Said::Pass => print_pass(rt, session)?,
-        Said::Node => ask_node(rt, session, words)?,
-        Said::Command => ask(rt, session, words)?,
+        Said::History => print_history(rt, &open.session)?,
+        Said::Pass => print_pass(rt, &open.session)?,
+        Said::Node => ask_node(rt, &mut open.session, words)?,
+        Said::Command => ask(rt, open, words)?,
+        Said::Verb => run_verb_line(rt, open, words)?,
     }
     Ok(false)
 }
 
-/// Does what a line says. Returns whether the prompt is over.
-fn run_line<R>(rt: &R, session: &mut Session<'_>, line: &str) -> Result<bool, Fault>
+/// Runs a line. Returns whether the prompt is over.
+fn run_line<R>(rt: &R, open: &mut Open<'_>, line: &str) -> Result<bool, Fault>
 where
-    R: AllocGlobal + Print + Eprint + Net<Listener = TcpListener, Stream = TcpStream>,
+    R: AllocGlobal + Env + Files + RandomSource + Input + Print + Eprint + Clock + Wait,
+    R: Net<Listener = TcpListener, Stream = TcpStream>,
 {
     let words: Vec<&str> = line.split_whitespace().collect(rt.alloc())?;
-    run_words(rt, session, words.as_slice())
+    run_words(rt, open, words.as_slice())
 }
 
-/// Does what the line says that was meant by what was entered, and keeps it. Returns whether the
-/// prompt is over.
-fn run_entered<R>(rt: &R, session: &mut Session<'_>, entered: &str) -> Result<bool, Fault>
+/// Runs the line that an entered one means, and keeps it. Returns whether the prompt is over.
+fn run_entered<R>(rt: &R, open: &mut Open<'_>, entered: &str) -> Result<bool, Fault>
 where
-    R: AllocGlobal + Print + Eprint + Net<Listener = TcpListener, Stream = TcpStream>,
+    R: AllocGlobal + Env + Files + RandomSource + Input + Print + Eprint + Clock + Wait,
+    R: Net<Listener = TcpListener, Stream = TcpStream>,
 {
-    let Some(line) = meant(rt.alloc(), session, entered)? else {
+    let Some(line) = meant(rt.alloc(), &open.session, entered)? else {
         print_wrong(rt, "there is no such line in the history")?;
         return Ok(false);
     };
-    let is_over = run_line(rt, session, line.as_str())?;
+    let is_over = run_line(rt, open, line.as_str())?;
     if !line.is_empty() {
-        session.keep(line)?;
+        open.session.keep(line)?;
     }
     Ok(is_over)
 }
 
-/// The next line of the input; none at its end.
+/// Returns the next line of the input, or `None` at its end.
 fn next_line<R: AllocGlobal + Input>(rt: &R) -> Result<Option<String>, Fault> {
     let mut entered = String::new(rt.alloc());
     match rt.read_line(&mut entered) {
@@ -236,7 +350,7 @@ fn next_line<R: AllocGlobal + Input>(rt: &R) -> Result<Option<String>, Fault> {
     }
 }
 
-/// Prints who is asked, and how one learns what can be asked.
+/// Prints the node that is asked, and how to get help.
 fn greet<R: Print>(rt: &R, asker: &Asker<'_>) -> Result<(), Fault> {
     let (address, node) = (asker.address, asker.node.get());
     match println!(rt; "craq {VERSION} asks node {node} at {address}; help tells the commands") {
@@ -245,26 +359,38 @@ fn greet<R: Print>(rt: &R, asker: &Asker<'_>) -> Result<(), Fault> {
     }
 }
 
-/// Takes lines until one ends the prompt or there are no more. The prompt itself, and what stands
-/// around it, is printed for a terminal alone.
-pub fn shell<R>(rt: &R, asker: &Asker<'_>, at_terminal: bool) -> Result<u8, Fault>
+/// Takes lines until one ends the prompt or there are no more. All requests go over one connection,
+/// which is made again after a fault. The prompt itself, and what stands around it, is printed for a
+/// terminal alone.
+pub fn shell<R>(
+    rt: &R,
+    link: Link<'_>,
+    asker: &Asker<'_>,
+    terminals: Terminals,
+) -> Result<u8, Fault>
 where
-    R: AllocGlobal + Input + Print + Eprint + Net<Listener = TcpListener, Stream = TcpStream>,
+    R: AllocGlobal + Env + Files + RandomSource + Input + Print + Eprint + Clock + Wait,
+    R: Net<Listener = TcpListener, Stream = TcpStream>,
 {
-    if at_terminal {
+    if terminals.input {
         greet(rt, asker)?;
     }
-    let mut session = Session::new(rt.alloc(), asker);
-    let taken = take_lines(rt, &mut session, at_terminal);
-    drop(session);
+    let mut open = Open {
+        session: Session::new(rt.alloc(), asker),
+        link,
+        at_terminal: terminals.output,
+    };
+    let taken = take_lines(rt, &mut open, terminals.input);
+    drop(open);
     taken?;
     Ok(0)
 }
 
 /// Takes lines until one ends the prompt or there are no more.
-fn take_lines<R>(rt: &R, session: &mut Session<'_>, at_terminal: bool) -> Result<(), Fault>
+fn take_lines<R>(rt: &R, open: &mut Open<'_>, at_terminal: bool) -> Result<(), Fault>
 where
-    R: AllocGlobal + Input + Print + Eprint + Net<Listener = TcpListener, Stream = TcpStream>,
+    R: AllocGlobal + Env + Files + RandomSource + Input + Print + Eprint + Clock + Wait,
+    R: Net<Listener = TcpListener, Stream = TcpStream>,
 {
     for _ in 0..u64::MAX {
         if at_terminal {
@@ -273,7 +399,7 @@ where
         let Some(entered) = next_line(rt)? else {
             return print_text(rt, if at_terminal { "\n" } else { "" });
         };
-        let run = run_entered(rt, session, entered.as_str());
+        let run = run_entered(rt, open, entered.as_str());
         drop(entered);
         if run? {
             break;

@@ -1,4 +1,4 @@
-//! `Tally`: how many requests were answered and refused, and how long each took; for `bench`.
+//! `Tally`: counts of answered and refused requests, and the time that each took; for `bench`.
 ghost use Rattle.std.specs.Prelude.{◌≡◌, ◌<◌, ◌≤◌, ◌+◌, ◌-◌, ◌^◌, min, max, IfOk};
 
 use std::alloc::{AllocError, Global};
@@ -22,7 +22,7 @@ pub struct Tally {
     pub longest: u64,
 }
 
-/// The bucket of a time.
+/// Returns the bucket of a time.
 fn bucket_of(microseconds: u64) -> usize
     ensures { result < BUCKETS }
 {
@@ -60,7 +60,7 @@ impl Tally {
         self.longest = self.longest.max(microseconds);
     }
 
-    /// One more was refused.
+    /// Counts one more refusal.
     pub fn refuse(&mut self)
         ensures { self.new ≡ record self.old { refused = min (self.old.refused + 1) (2 ^ 64 - 1) } }
     {
@@ -81,8 +81,8 @@ impl Tally {
         self.longest = self.longest.max(other.longest);
     }
 
-    /// The time, in microseconds and to 10 of them, within which `percent` of 100 answers came; the
-    /// longest where it lies above 100 milliseconds, and 0 where nothing was answered.
+    /// Returns the microseconds, to 10 of them, within which `percent` of 100 answers came. Above
+    /// 100 milliseconds it is the longest time; without answers it is 0.
     pub fn within(&self, percent: u64) -> u64
         ensures { result ≤ self.now.longest }
     {

@@ -10,7 +10,7 @@ use std::time::{Clock, Duration, Instant};
 /// The milliseconds between two requests.
 const PAUSE_MILLISECONDS: u64 = 200;
 
-/// The status of the server.
+/// Asks the server for its status.
 fn status<R>(rt: &R, address: &str) -> Result<Text, Fault>
 where
     R: AllocGlobal + Net<Listener = TcpListener, Stream = TcpStream>,
@@ -29,7 +29,7 @@ fn print_line<R: Print>(rt: &R, line: &str) -> Result<(), Fault> {
     }
 }
 
-/// Prints a status that is another than the last one.
+/// Prints a status if it differs from the last one.
 fn print_change<R: Print>(rt: &R, last: &str, next: &str) -> Result<(), Fault> {
     if next == last {
         Ok(())
@@ -38,7 +38,7 @@ fn print_change<R: Print>(rt: &R, last: &str, next: &str) -> Result<(), Fault> {
     }
 }
 
-/// Returns whether this many seconds are over; never where there is no number.
+/// Returns whether this many seconds are over; never if there is no number.
 fn is_over<R: Clock>(rt: &R, began: &Instant, seconds: Option<u64>) -> Result<bool, Fault> {
     let Some(seconds) = seconds else {
         return Ok(false);
@@ -49,8 +49,8 @@ fn is_over<R: Clock>(rt: &R, began: &Instant, seconds: Option<u64>) -> Result<bo
     }
 }
 
-/// Prints the status of the server, and prints it again whenever it is another, for this many
-/// seconds; without end where there is no number.
+/// Prints the status of the server, and prints it again whenever it changes, for this many seconds;
+/// without end if there is no number.
 pub fn watch<R>(rt: &R, address: &str, seconds: Option<u64>) -> Result<u8, Fault>
 where
     R: AllocGlobal + Print + Clock + Wait + Net<Listener = TcpListener, Stream = TcpStream>,

@@ -1,0 +1,111 @@
+//! `Chain`: a chain as the status of the server describes it; for `asking` and `people`.
+use crate::link::{Failure, Link};
+use craq_frames::{ClientMessage, ClientReply};
+use craq_names::{ChainId, NodeId, Refusal};
+use serde_json::Value;
+use std::alloc::Global;
+use std::net::{Net, TcpListener, TcpStream};
+
+/// A chain.
+#[derive(Debug, Drop)]
+pub struct Chain {
+    pub id: ChainId,
+    pub name: String,
+    /// The number of its membership.
+    pub epoch: u64,
+    /// The ids of its members, head first.
+    pub members: Vec<NodeId>,
+}
+
+/// Returns the node with this id; `NoReply` if the value is no number of 32 bits.
+fn node_of(value: &Value) -> Result<NodeId, Failure> {
+    match value.as_u64() {
+        Some(id) if id <= 0xffff_ffff => Ok(NodeId::new(id as u32)),
+        _ => Err(Failure::NoReply),
+    }
+}
+
+/// Returns the nodes of an array.
+fn nodes_of(alloc: Global, value: Option<&Value>) -> Result<Vec<NodeId>, Failure> {
+    let Some(items) = value.and_then(Value::as_array) else {
+        return Err(Failure::NoReply);
+    };
+    let mut nodes = Vec::new(alloc);
+    for item in items {
+        let node = node_of(item)?;
+        nodes.push(node)?;
+    }
+    Ok(nodes)
+}
+
+/// Returns the chain of this id that an object describes.
+fn chain_of(alloc: Global, id: ChainId, value: &Value) -> Result<Chain, Failure> {
+    let members = nodes_of(alloc, value.get("members"))?;
+    let (Some(name), Some(epoch)) = (
+        value.get("name").and_then(Value::as_str),
+        value.get("epoch").and_then(Value::as_u64),
+    ) else {
+        return Err(Failure::NoReply);
+    };
+    Ok(Chain {
+        id,
+        name: String::from_str(alloc, name)?,
+        epoch,
+        members,
+    })
+}
+
+/// Returns the chains that a value describes, by id.
+fn chains_in(alloc: Global, value: &Value) -> Result<Vec<Chain>, Failure> {
+    let Some(items) = value.get("chains").and_then(Value::as_array) else {
+        return Err(Failure::NoReply);
+    };
+    let mut chains = Vec::new(alloc);
+    for (id, item) in items.iter().enumerate() {
+        let chain = chain_of(alloc, ChainId::new((id % 65536) as u16), item)?;
+        chains.push(chain)?;
+    }
+    Ok(chains)
+}
+
+/// Returns the chains of a status text, by id. `NoReply` if the text does not describe chains.
+fn chains_of(alloc: Global, status: &str) -> Result<Vec<Chain>, Failure> {
+    match Value::from_str(alloc, status) {
+        Ok(value) => chains_in(alloc, &value),
+        Err(error) if error.is_memory() => Err(Failure::Memory),
+        Err(_) => Err(Failure::NoReply),
+    }
+}
+
+/// Asks the server for its chains.
+pub fn chains<R>(rt: &R, link: &mut Link<'_>) -> Result<Vec<Chain>, Failure>
+where
+    R: AllocGlobal + Net<Listener = TcpListener, Stream = TcpStream>,
+{
+    match link.ask(rt, &ClientMessage::Status)? {
+        ClientReply::Status(status) => chains_of(rt.alloc(), status.as_str()),
+        ClientReply::Refused(refusal) => Err(Failure::Refused(refusal)),
+        _ => Err(Failure::NoReply),
+    }
+}
+
+/// Returns the id of the chain of this name; `Refused` with `UnknownChain` if there is none.
+pub fn id_of_name(chains: &[Chain], name: &str) -> Result<ChainId, Failure> {
+    for chain in chains {
+        if chain.name.as_str() == name {
+            return Ok(chain.id);
+        }
+    }
+    Err(Failure::Refused(Refusal::UnknownChain))
+}
+
+/// Returns the members of the chain with this id, head first; `Refused` with `UnknownChain` if
+/// there is none.
+pub fn members_of(chains: &[Chain], id: ChainId) -> Result<&[NodeId], Failure> {
+    for chain in chains {
+        if chain.id == id {
+            return Ok(chain.members.as_slice());
+        }
+    }
+    Err(Failure::Refused(Refusal::UnknownChain))
+}

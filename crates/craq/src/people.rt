@@ -1,0 +1,691 @@
+//! Runs a verb for people: parses its words, asks, and prints the reply or the fault in words;
+//! called by `main` and `shell`.
+use crate::asking::{Target, Unanswered, answered, known_chains};
+use crate::calling::message_in;
+use crate::chains::id_of_name;
+use crate::fault::{Fault, NO_CONNECTION, REFUSED};
+use crate::health::times;
+use crate::identity::{client_id, nanoseconds};
+use crate::link::{Failure, Link};
+use crate::output::{chains_json, chains_text, reply_json, reply_text, times_json, times_text};
+use crate::quoting::push_word;
+use craq_cli::{
+    BAD_INPUT, BadWord, Request, UsageError, ValueForm, Verb, VerbContext, VerbLine, raw_bytes,
+    verb_of,
+};
+use craq_commands::Reply;
+use craq_frames::ClientReply;
+use craq_names::{ChainId, ClientId, NodeId, Pass, Refusal};
+use craq_script::number_up_to;
+use std::alloc::{AllocError, Global};
+use std::env::Env;
+use std::io::Read;
+use std::net::{Net, TcpListener, TcpStream};
+use std::random::RandomSource;
+use std::rt::Files;
+use std::sync::Wait;
+use std::time::Clock;
+
+/// The status if an update was answered and wrote nothing.
+const NOT_WRITTEN: u8 = 5;
+
+/// The status if an object was never written.
+const ABSENT: u8 = 6;
+
+/// The most bytes that are read from standard input: a value of 4,096 bytes in hexadecimal digits,
+/// and one more by which a longer one shows.
+const MOST_INPUT: u64 = 8193;
+
+/// The most numbers that are tried for an update whose number was not given.
+const MOST_NUMBERS: u32 = 8;
+
+/// The setting of a verb.
+#[derive(Clone, Copy, Debug)]
+pub struct Setting {
+    /// The node that the options name.
+    pub node: Option<NodeId>,
+    /// The largest pass that was received so far.
+    pub pass: Pass,
+    /// True if standard output is a terminal.
+    pub at_terminal: bool,
+    /// True if a value `-` is read from standard input.
+    pub reads_input: bool,
+}
+
+/// A verb: its line, and the bytes of its words.
+#[derive(Clone, Copy)]
+struct Words<'b> {
+    line: &'b VerbLine<'b>,
+    bytes: &'b [&'b [u8]],
+}
+
+/// The reason that nothing is asked.
+#[derive(Clone, Copy, Debug, PartialEq, Eq)]
+enum Wrong {
+    Memory,
+    /// A word is not what is expected.
+    Word(BadWord),
+    /// A key, a value or a transaction is outside its limits.
+    Limit(Refusal),
+}
+
+/// The client of an update, and its number.
+#[derive(Clone, Copy, Debug)]
+struct Named {
+    client: u64,
+    number: u64,
+}
+
+/// The state of an update after one number was tried.
+#[derive(Clone, Copy, Debug)]
+enum Next {
+    /// The update is over; this is the status.
+    Over(u8),
+    /// The number was never used for it; the next one lies above this number.
+    Above(u64),
+}
+
+/// The kind of a verb.
+#[derive(Clone, Copy, Debug, PartialEq, Eq)]
+enum Kind {
+    Update,
+    Read,
+    Members,
+    Health,
+}
+
+/// Prints a line on standard error.
+fn tell<R: Eprint>(rt: &R, text: &str) -> Result<(), Fault> {
+    match eprintln!(rt; "craq: {text}") {
+        Ok(()) => Ok(()),
+        Err(error) => Err(Fault::CannotPrint(error)),
+    }
+}
+
+/// Writes bytes to standard output.
+fn write_out<R: Print>(rt: &R, bytes: &[u8]) -> Result<(), Fault> {
+    match rt.write_all(bytes) {
+        Ok(()) => Ok(()),
+        Err(error) => Err(Fault::CannotPrint(error)),
+    }
+}
+
+/// Returns the place of the word that is a value: `None` for verbs without one.
+fn value_place(verb: &str) -> Option<usize> {
+    match verb {
+        "set" => Some(2),
+        "cas" => Some(3),
+        _ => None,
+    }
+}
+
+/// Reads a value from standard input. A last line feed belongs to it.
+fn input_bytes<R: AllocGlobal + Input>(rt: &R) -> Result<Vec<u8>, Fault> {
+    let mut bytes = Vec::new(rt.alloc());
+    match rt.reader().take(MOST_INPUT).read_to_end(&mut bytes) {
+        Ok(_) => Ok(bytes),
+        Err(error) if error.kind() == std::io::ErrorKind::OutOfMemory => Err(Fault::Memory),
+        Err(_) => Err(Fault::System),
+    }
+}
+
+/// Returns the place of the value that is read from standard input; `None` if there is none.
+fn input_place(setting: &Setting, words: &[&str]) -> Option<usize> {
+    if !setting.reads_input {
+        return None;
+    }
+    let place = value_place(words.first()?)?;
+    if *words.get(place)? == "-" {
+        Some(place)
+    } else {
+        None
+    }
+}
+
+/// Returns the bytes of the words, a value `-` read from standard input.
+fn bytes_of_words<R: AllocGlobal + Input>(
+    rt: &R,
+    setting: &Setting,
+    words: &[&str],
+) -> Result<Vec<Vec<u8>>, Fault> {
+    let input = input_place(setting, words);
+    let mut all = Vec::new(rt.alloc());
+    for (place, word) in words.iter().enumerate() {
+        let bytes = if input == Some(place) {
+            input_bytes(rt)?
+        } else {
+            raw_bytes(rt.alloc(), word)?
+        };
+        all.push(bytes)?;
+    }
+    Ok(all)
+}
+
+/// Returns the kind of a verb.
+fn kind_of(verb: &Verb) -> Kind {
+    match verb {
+        Verb::Ask(Request::Read { .. }) => Kind::Read,
+        Verb::Ask(_) => Kind::Update,
+        Verb::Members => Kind::Members,
+        Verb::Health => Kind::Health,
+    }
+}
+
+/// Prints which word of a verb is not what is expected. Returns the status.
+fn report_bad<R: AllocGlobal + Eprint>(rt: &R, bad: &BadWord, words: &[&str]) -> Result<u8, Fault> {
+    let reported = bad.reported(rt.alloc(), words)?;
+    tell(rt, reported.as_str())?;
+    Ok(BAD_INPUT)
+}
+
+/// Prints which limit a key, a value or a transaction exceeds. Returns the status.
+fn report_limit<R: Eprint>(rt: &R, refusal: Refusal) -> Result<u8, Fault> {
+    match eprintln!(rt; "craq: {refusal}") {
+        Ok(()) => Ok(BAD_INPUT),
+        Err(error) => Err(Fault::CannotPrint(error)),
+    }
+}
+
+/// Prints a refusal with its number and in words. Returns the status.
+fn report_refused<R: AllocGlobal + Eprint>(rt: &R, refusal: Refusal) -> Result<u8, Fault> {
+    let (number, detail) = (refusal.number(), refusal.detail());
+    let detail = if detail > 0 {
+        format!(in rt.alloc(); " {detail}")?
+    } else {
+        String::new(rt.alloc())
+    };
+    match eprintln!(rt; "craq: refused {number}{detail}: {refusal}") {
+        Ok(()) => Ok(REFUSED),
+        Err(error) => Err(Fault::CannotPrint(error)),
+    }
+}
+
+/// Prints why a request was not answered. Returns the status.
+fn report_failure<R: AllocGlobal + Eprint>(
+    rt: &R,
+    link: &Link<'_>,
+    failure: Failure,
+) -> Result<u8, Fault> {
+    let address = link.address();
+    let text = match failure {
+        Failure::Memory => return Err(Fault::Memory),
+        Failure::NoClock => return Err(Fault::System),
+        Failure::Refused(refusal) => return report_refused(rt, refusal),
+        Failure::Unsent => format!(in rt.alloc(); "no server answers at {address}")?,
+        Failure::Broken => {
+            format!(in rt.alloc(); "the connection to {address} broke, or no reply came in time")?
+        }
+        Failure::NoReply => format!(in rt.alloc(); "what came from {address} is no reply")?,
+    };
+    tell(rt, text.as_str())?;
+    Ok(NO_CONNECTION)
+}
+
+/// Returns the command that asks an update again under its number.
+fn again_command(
+    alloc: Global,
+    link: &Link<'_>,
+    setting: &Setting,
+    words: Words<'_>,
+    named: Named,
+) -> Result<String, AllocError> {
+    let (client, number) = (named.client, named.number);
+    let mut text = format!(in alloc; "craq --client {client} --number {number} --connect")?;
+    push_word(&mut text, alloc, link.address())?;
+    if let Some(chain) = words.line.options.chain {
+        text.push_str(" --chain")?;
+        push_word(&mut text, alloc, chain)?;
+    }
+    if let Some(node) = setting.node {
+        let node = node.get();
+        write!(text, " --node {node}")?;
+    }
+    if words.line.options.form == ValueForm::Hexadecimal {
+        text.push_str(" --hex")?;
+    }
+    text.push_str(" --")?;
+    for word in &words.line.words {
+        push_word(&mut text, alloc, word)?;
+    }
+    Ok(text)
+}
+
+/// Prints the command that asks an update again, which may have been done.
+fn report_open<R: AllocGlobal + Eprint>(
+    rt: &R,
+    link: &Link<'_>,
+    setting: &Setting,
+    words: Words<'_>,
+    named: Named,
+) -> Result<(), Fault> {
+    let again = again_command(rt.alloc(), link, setting, words, named)?;
+    let again = again.as_str();
+    match eprintln!(rt;
+        "craq: it may have been done. This asks it again, and it is done once:\n  {again}"
+    ) {
+        Ok(()) => Ok(()),
+        Err(error) => Err(Fault::CannotPrint(error)),
+    }
+}
+
+/// Returns what the words of a verb do not name.
+fn context_of(line: &VerbLine<'_>, chain: ChainId, named: Named) -> VerbContext {
+    VerbContext {
+        chain,
+        client: ClientId::new(named.client),
+        number: named.number,
+        mode: line.options.mode,
+        form: line.options.form,
+    }
+}
+
+/// Checks the words, and returns the kind of the verb.
+fn check(alloc: Global, words: Words<'_>) -> Result<Kind, Wrong> {
+    let named = Named {
+        client: 0,
+        number: words.line.options.number.unwrap_or(1),
+    };
+    let context = context_of(words.line, ChainId::new(0), named);
+    let verb = match verb_of(alloc, &context, words.bytes) {
+        Ok(verb) => verb,
+        Err(UsageError::Memory) => return Err(Wrong::Memory),
+        Err(UsageError::Bad(bad)) => return Err(Wrong::Word(bad)),
+    };
+    check_limits(alloc, &verb)?;
+    Ok(kind_of(&verb))
+}
+
+/// Checks the limits of the verb's keys, values and items.
+fn check_limits(alloc: Global, verb: &Verb) -> Result<(), Wrong> {
+    let Verb::Ask(request) = verb else {
+        return Ok(());
+    };
+    match message_in(alloc, NodeId::new(0), Pass::start(), request) {
+        Ok(_message) => Ok(()),
+        Err(Refusal::Memory) => Err(Wrong::Memory),
+        Err(refusal) => Err(Wrong::Limit(refusal)),
+    }
+}
+
+/// Returns the request of a verb whose words were checked.
+fn request_of(
+    alloc: Global,
+    words: Words<'_>,
+    chain: ChainId,
+    named: Named,
+) -> Result<Request, Fault> {
+    let context = context_of(words.line, chain, named);
+    match verb_of(alloc, &context, words.bytes) {
+        Ok(Verb::Ask(request)) => Ok(request),
+        Err(UsageError::Memory) => Err(Fault::Memory),
+        _ => Err(Fault::System),
+    }
+}
+
+/// Returns the pass of a reply, if it has one.
+fn pass_of(reply: &ClientReply) -> Option<Pass> {
+    match reply {
+        ClientReply::Update { pass, reply: _ } => Some(*pass),
+        ClientReply::Read {
+            pass,
+            version: _,
+            value: _,
+        } => Some(*pass),
+        _ => None,
+    }
+}
+
+/// Returns the largest number that is kept, if the reply says that the number was too small.
+fn stale_of(reply: &ClientReply) -> Option<u64> {
+    match reply {
+        ClientReply::Update {
+            pass: _,
+            reply: Reply::Stale(last),
+        } => Some(last.get()),
+        _ => None,
+    }
+}
+
+/// Returns the status of a reply.
+fn status_of(reply: &ClientReply) -> u8 {
+    match reply {
+        ClientReply::Update { pass: _, reply } => match reply {
+            Reply::Written(_) | Reply::Done(_) => 0,
+            _ => NOT_WRITTEN,
+        },
+        ClientReply::Read {
+            pass: _,
+            version,
+            value: _,
+        } => { if version.get() == 0 { ABSENT } else { 0 } }
+        _ => 0,
+    }
+}
+
+/// Prints the members of a JSON object with the pass.
+fn print_json<R: AllocGlobal + Print>(rt: &R, members: &str, pass: Pass) -> Result<(), Fault> {
+    let pass = pass.stamp().get();
+    let text = format!(in rt.alloc(); "{{{members},\"pass\":{pass}}}\n")?;
+    write_out(rt, text.as_str().as_bytes())
+}
+
+/// Prints a reply. Returns the status.
+fn print_reply<R: AllocGlobal + Print + Eprint>(
+    rt: &R,
+    setting: &Setting,
+    line: &VerbLine<'_>,
+    reply: &ClientReply,
+) -> Result<u8, Fault> {
+    let status = status_of(reply);
+    if line.options.is_json {
+        let members = reply_json(rt.alloc(), reply)?;
+        print_json(rt, members.as_str(), setting.pass)?;
+        return Ok(status);
+    }
+    let text = reply_text(rt.alloc(), reply, &line.options, setting.at_terminal)?;
+    write_out(rt, text.as_slice())?;
+    if line.options.prints_pass {
+        let pass = setting.pass.stamp().get();
+        let text = format!(in rt.alloc(); "pass {pass}\n")?;
+        write_out(rt, text.as_str().as_bytes())?;
+    }
+    if status == ABSENT {
+        tell(rt, "absent: the object was never written")?;
+    }
+    Ok(status)
+}
+
+/// Raises the pass to that of the reply, and prints the reply. Returns the status.
+fn show<R: AllocGlobal + Print + Eprint>(
+    rt: &R,
+    setting: &mut Setting,
+    line: &VerbLine<'_>,
+    reply: &ClientReply,
+) -> Result<u8, Fault> {
+    if let Some(pass) = pass_of(reply) {
+        setting.pass = setting.pass.join(pass);
+    }
+    print_reply(rt, setting, line, reply)
+}
+
+/// Returns the target of a verb's requests.
+fn target_of<R: Clock>(rt: &R, setting: &Setting, chain: ChainId) -> Result<Target, Fault> {
+    Ok(Target {
+        pass: setting.pass,
+        chain,
+        pinned: setting.node,
+        head: None,
+        seed: nanoseconds(rt)?,
+    })
+}
+
+/// Asks a read, and prints the reply. Returns the status.
+fn read<R>(
+    rt: &R,
+    link: &mut Link<'_>,
+    setting: &mut Setting,
+    words: Words<'_>,
+    chain: ChainId,
+) -> Result<u8, Fault>
+where
+    R: AllocGlobal + Print + Eprint + Clock + Wait,
+    R: Net<Listener = TcpListener, Stream = TcpStream>,
+{
+    let named = Named {
+        client: 0,
+        number: 1,
+    };
+    let mut target = target_of(rt, setting, chain)?;
+    let request = request_of(rt.alloc(), words, chain, named)?;
+    let asked = answered(rt, link, &mut target, &request);
+    drop(request);
+    match asked {
+        Ok((reply, _)) => show(rt, setting, words.line, &reply),
+        Err(unanswered) => report_failure(rt, link, unanswered.failure),
+    }
+}
+
+/// Prints why an update was not answered, and how it is asked again if it may have been done.
+/// Returns the status.
+fn report_unanswered<R: AllocGlobal + Eprint>(
+    rt: &R,
+    link: &Link<'_>,
+    setting: &Setting,
+    words: Words<'_>,
+    update: (Named, Unanswered),
+) -> Result<u8, Fault> {
+    let (named, unanswered) = update;
+    let status = report_failure(rt, link, unanswered.failure)?;
+    if unanswered.is_open {
+        report_open(rt, link, setting, words, named)?;
+    }
+    Ok(status)
+}
+
+/// Asks an update under a number, and prints the reply or the fault.
+fn update_as<R>(
+    rt: &R,
+    link: &mut Link<'_>,
+    setting: &mut Setting,
+    words: Words<'_>,
+    update: (ChainId, Named),
+) -> Result<Next, Fault>
+where
+    R: AllocGlobal + Print + Eprint + Clock + Wait,
+    R: Net<Listener = TcpListener, Stream = TcpStream>,
+{
+    let (chain, named) = update;
+    let mut target = target_of(rt, setting, chain)?;
+    let request = request_of(rt.alloc(), words, chain, named)?;
+    let asked = answered(rt, link, &mut target, &request);
+    drop(request);
+    match asked {
+        Ok((reply, is_open)) => judge(rt, link, setting, words, (named, &reply, is_open)),
+        Err(unanswered) => {
+            let update = (named, unanswered);
+            Ok(Next::Over(report_unanswered(rt, link, setting, words, update)?))
+        }
+    }
+}
+
+/// Prints the reply to an update, unless its fresh number was too small. `is_open` is true if an
+/// earlier try may have done the update.
+fn judge<R>(
+    rt: &R,
+    link: &Link<'_>,
+    setting: &mut Setting,
+    words: Words<'_>,
+    replied: (Named, &ClientReply, bool),
+) -> Result<Next, Fault>
+where
+    R: AllocGlobal + Print + Eprint,
+{
+    let (named, reply, is_open) = replied;
+    let stale = stale_of(reply);
+    if let (Some(last), None, false) = (stale, words.line.options.number, is_open) {
+        return Ok(Next::Above(last));
+    }
+    if stale.is_some() && is_open {
+        report_open(rt, link, setting, words, named)?;
+    }
+    Ok(Next::Over(show(rt, setting, words.line, reply)?))
+}
+
+/// Asks an update, and prints the reply. A fresh number that is too small was never used for it,
+/// and is exchanged for a larger one. Returns the status.
+fn update<R>(
+    rt: &R,
+    link: &mut Link<'_>,
+    setting: &mut Setting,
+    words: Words<'_>,
+    chain: ChainId,
+) -> Result<u8, Fault>
+where
+    R: AllocGlobal + Env + Files + RandomSource + Print + Eprint + Clock + Wait,
+    R: Net<Listener = TcpListener, Stream = TcpStream>,
+{
+    let client = match words.line.options.client {
+        Some(client) => client,
+        None => client_id(rt)?,
+    };
+    let mut above = 0u64;
+    for _ in 0..MOST_NUMBERS {
+        let number = match words.line.options.number {
+            Some(number) => number,
+            None => nanoseconds(rt)?.max(above.saturating_add(1)),
+        };
+        let named = Named { client, number };
+        match update_as(rt, link, setting, words, (chain, named))? {
+            Next::Over(status) => return Ok(status),
+            Next::Above(last) => above = last,
+        }
+    }
+    tell(
+        rt,
+        "other programs use this client's id all the time: choose another --client",
+    )?;
+    Ok(NOT_WRITTEN)
+}
+
+/// Prints the chains and their members. Returns the status.
+fn members<R>(
+    rt: &R,
+    link: &mut Link<'_>,
+    setting: &Setting,
+    line: &VerbLine<'_>,
+) -> Result<u8, Fault>
+where
+    R: AllocGlobal + Print + Eprint + Clock + Wait,
+    R: Net<Listener = TcpListener, Stream = TcpStream>,
+{
+    let chains = match known_chains(rt, link) {
+        Ok(chains) => chains,
+        Err(failure) => return report_failure(rt, link, failure),
+    };
+    if line.options.is_json {
+        let members = chains_json(rt.alloc(), chains.as_slice())?;
+        print_json(rt, members.as_str(), setting.pass)?;
+    } else {
+        let text = chains_text(rt.alloc(), chains.as_slice())?;
+        write_out(rt, text.as_str().as_bytes())?;
+    }
+    Ok(0)
+}
+
+/// Prints the times of a chain. Returns the status.
+fn health<R>(
+    rt: &R,
+    link: &mut Link<'_>,
+    setting: &mut Setting,
+    words: Words<'_>,
+    chain: ChainId,
+) -> Result<u8, Fault>
+where
+    R: AllocGlobal + Env + Files + RandomSource + Print + Eprint + Clock + Wait,
+    R: Net<Listener = TcpListener, Stream = TcpStream>,
+{
+    let client = match words.line.options.client {
+        Some(client) => client,
+        None => client_id(rt)?,
+    };
+    let mut target = target_of(rt, setting, chain)?;
+    let measured = times(rt, link, &mut target, client);
+    setting.pass = target.pass;
+    let times = match measured {
+        Ok(times) => times,
+        Err(failure) => return report_failure(rt, link, failure),
+    };
+    if words.line.options.is_json {
+        let members = times_json(rt.alloc(), &times)?;
+        print_json(rt, members.as_str(), setting.pass)?;
+    } else {
+        let text = times_text(rt.alloc(), &times)?;
+        write_out(rt, text.as_str().as_bytes())?;
+    }
+    Ok(0)
+}
+
+/// Returns the chain that the options name, by number or by name.
+fn chain_of<R>(rt: &R, link: &mut Link<'_>, name: Option<&str>) -> Result<ChainId, Failure>
+where
+    R: AllocGlobal + Clock + Wait + Net<Listener = TcpListener, Stream = TcpStream>,
+{
+    let Some(name) = name else {
+        return Ok(ChainId::new(0));
+    };
+    if let Ok(id) = number_up_to(65535, name.as_bytes()) {
+        return Ok(ChainId::new(id as u16));
+    }
+    let chains = known_chains(rt, link)?;
+    id_of_name(chains.as_slice(), name)
+}
+
+/// Runs a verb whose words were checked. Returns the status.
+fn run_kind<R>(
+    rt: &R,
+    link: &mut Link<'_>,
+    setting: &mut Setting,
+    words: Words<'_>,
+    kind: Kind,
+) -> Result<u8, Fault>
+where
+    R: AllocGlobal + Env + Files + RandomSource + Print + Eprint + Clock + Wait,
+    R: Net<Listener = TcpListener, Stream = TcpStream>,
+{
+    if kind == Kind::Members {
+        return members(rt, link, setting, words.line);
+    }
+    let chain = match chain_of(rt, link, words.line.options.chain) {
+        Ok(chain) => chain,
+        Err(failure) => return report_failure(rt, link, failure),
+    };
+    match kind {
+        Kind::Update => update(rt, link, setting, words, chain),
+        Kind::Read => read(rt, link, setting, words, chain),
+        _ => health(rt, link, setting, words, chain),
+    }
+}
+
+/// Checks the words of a verb, and runs it. Returns the status.
+fn run_words<R>(
+    rt: &R,
+    link: &mut Link<'_>,
+    setting: &mut Setting,
+    words: Words<'_>,
+) -> Result<u8, Fault>
+where
+    R: AllocGlobal + Env + Files + RandomSource + Print + Eprint + Clock + Wait,
+    R: Net<Listener = TcpListener, Stream = TcpStream>,
+{
+    match check(rt.alloc(), words) {
+        Ok(kind) => run_kind(rt, link, setting, words, kind),
+        Err(Wrong::Memory) => Err(Fault::Memory),
+        Err(Wrong::Word(bad)) => report_bad(rt, &bad, words.line.words.as_slice()),
+        Err(Wrong::Limit(refusal)) => report_limit(rt, refusal),
+    }
+}
+
+/// Runs a verb for people, and raises the pass of the setting to those of the replies. Returns the
+/// status: 0, or 2 for wrong words, 3 after a refusal, 4 if no server answered, 5 if nothing was
+/// written, 6 if the object was never written. Nothing is sent before the words are checked.
+pub fn run_verb<R>(
+    rt: &R,
+    link: &mut Link<'_>,
+    setting: &mut Setting,
+    line: &VerbLine<'_>,
+) -> Result<u8, Fault>
+where
+    R: AllocGlobal + Env + Files + RandomSource + Input + Print + Eprint + Clock + Wait,
+    R: Net<Listener = TcpListener, Stream = TcpStream>,
+{
+    let owned = bytes_of_words(rt, setting, line.words.as_slice())?;
+    let mut bytes = Vec::new(rt.alloc());
+    for word in &owned {
+        bytes.push(word.as_slice())?;
+    }
+    let words = Words {
+        line,
+        bytes: bytes.as_slice(),
+    };
+    run_words(rt, link, setting, words)
+}

@@ -39,7 +39,7 @@ names_cell R old new event pass receipt kept takes =
     let t = takes kept.named.0 kept.named.1 in
     ap (λ (x : Receipt). x.node) t.1.1 ∙ ap (λ (o : Opening). o.name.node) (same_opening _ (with_inside old kept.named.0) (with_inside new t.0) event _ pass t.1.0)
 
--- the same for a step of a master
+-- the receipt of a master's step names the node of the cell
 pub names_book : (old new : Celled Mastered BookEvent) (event : BookEvent) (pass : ℕ) (receipt : Receipt) → (cell_step book_step old event (book_stamp event) pass ≡ Ok new) × (receipt ≡ receipt_of new)
     → receipt.node ≡ old.opening.name.node
 names_book old new event pass receipt takes =

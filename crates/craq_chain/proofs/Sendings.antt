@@ -89,7 +89,7 @@ each_message_at P [] i m h e = cc
 each_message_at P (x ∷ ms) zero m h e = let same : x ≡ m = cc in subst P same h.0
 each_message_at P (x ∷ ms) (suc i) m h e = each_message_at P ms i m h.1 e
 
--- what holds of each message holds of the one of a number
+-- a property of each message holds of the message of a number
 pub each_message : (P : LinkMessage → Type 0) (ms : List LinkMessage) (number : ℕ) (m : LinkMessage) → AllByRecursion P ms → message_at ms number ≡ Some m → P m
 each_message P ms zero m h e = cc
 each_message P ms (suc i) m h e = each_message_at P ms i m h e

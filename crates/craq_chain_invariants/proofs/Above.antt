@@ -60,7 +60,7 @@ pub record WaitAbove (p : Plain) : Type 0 where
 pub none_waits : (p : Plain) → p.waiting_updates ≡ [] → WaitAbove p
 none_waits p none = let P : List WaitingUpdate → Type 0 = λ l. AllAbove p.past.acknowledged l in record { above = subst P (sym none) tt; tail = λ e. none; unready = λ e. none }
 
--- the same updates wait at a node that knows the same number to be committed
+-- a node keeps the property if its waiting updates, its commit index, its place as tail and its readiness are unchanged
 like : (p q : Plain) → WaitAbove p → q.past.acknowledged ≡ p.past.acknowledged → q.waiting_updates ≡ p.waiting_updates → is_tail q ≡ is_tail p → q.ready ≡ p.ready → WaitAbove q
 like p q w a u t r =
     let P : ℕ → Type 0 = λ n. AllAbove n p.waiting_updates in

@@ -52,7 +52,7 @@ hold_more chain run p q i at there before =
     let Q : List Entry → Type 0 = λ l. IsPrefix (history_of (committed_in chain run) q) l in
     subst Q n.history (subst P m.history (safe.predecessors_hold_now (id_of q) (id_of p) now))
 
--- the same in the membership that the later one knows
+-- the first node's history extends the second's, if it is before it in the membership that the second knows
 pub hold_more_known : (chain : ℕ) (run : Run) (p q : Plain) → IsTypedRunOf chain run → IsNode (chain_after chain run) p → IsNode (chain_after chain run) q
     → Before q.members (id_of p) (id_of q) → IsPrefix (history_of (committed_in chain run) q) (history_of (committed_in chain run) p)
 hold_more_known chain run p q i at there before =

@@ -108,11 +108,11 @@ found_of (Done found) = found
 found_of (CompareFailed place) = []
 found_of (Stale last) = []
 
--- the same version and value
+-- returns true if version and value are equal
 abbrev pub same_found : ℕ × List ℕ → ℕ × List ℕ → Bool
 same_found x y = (x.0 == y.0) && same_bytes x.1 y.1
 
--- the same reply
+-- returns true if the replies are equal
 unfoldable pub same_reply : Reply → Reply → Bool
 same_reply x y = (reply_kind x == reply_kind y) && (reply_number x == reply_number y) && all_pairs same_found (found_of x) (found_of y)
 

@@ -189,7 +189,7 @@ impl Single {
     }
 
     /// Returns true if the client's number is new.
-    #[tactic(auto, using(crate::proofs::RequestStatus::new_is_unsaid), unfolding(craq_commands::specs::SingleCopy::window_of))]
+    #[tactic(auto, using(crate::proofs::Said::new_is_unsaid), unfolding(craq_commands::specs::SingleCopy::window_of))]
     fn is_new(&self, client: ClientId, number: RequestNo) -> bool
         ensures { result ≡ is_new_to self.now client number }
     {

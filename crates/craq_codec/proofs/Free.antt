@@ -1,4 +1,4 @@
--- What may be written: any number, and the replies of a window that have an encoding.
+-- Values that may be encoded: any number, and the replies of a window that have an encoding.
 use Rattle.std.proofs.Common.{◌<◌, ℕ, List, [], ◌∷◌, length, arith}
 use Rattle.std.specs.Prelude.{⊤}
 use Rattle.std.specs.List.{AllByRecursion}

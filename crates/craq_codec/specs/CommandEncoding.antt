@@ -23,7 +23,7 @@ abbrev pub transaction : Transaction → List ℕ
 transaction t =
     counted w8 (pair object (number w64)) t.compares ++ (counted w8 object t.reads ++ counted w8 (pair object value) t.writes)
 
--- what follows a command's tag
+-- the bytes after a command's tag
 abbrev pub command_body : Command → List ℕ
 command_body (Put o v) = object o ++ value v
 command_body (TestAndSet o expect v) = object o ++ (number w64 expect ++ value v)

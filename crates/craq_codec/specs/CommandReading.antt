@@ -20,7 +20,7 @@ transaction_at bytes = do
   t ← result_ok (mini_of (transaction_of lists.0))
   Some (t, lists.1)
 
--- what follows a command's tag
+-- decodes the bytes after a command's tag
 unfoldable pub command_body_at : ℕ → List ℕ → Option (Command × List ℕ)
 command_body_at tag bytes =
     if tag == 1 then mapped (λ (x : ObjectId × List ℕ). Put x.0 x.1) (pair_at object_at value_at bytes)

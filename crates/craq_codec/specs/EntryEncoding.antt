@@ -25,7 +25,7 @@ reply_tag (Done objects) = 7
 reply_tag (CompareFailed place) = 8
 reply_tag (Stale last) = 9
 
--- what follows a reply's tag
+-- the bytes after a reply's tag
 abbrev pub reply_body : Reply → List ℕ
 reply_body (Written version) = number w64 version
 reply_body (Mismatch version) = number w64 version

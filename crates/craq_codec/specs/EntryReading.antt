@@ -10,7 +10,7 @@ use Rattle.craq_commands.specs.declared.entry.Write.{Write}
 use Rattle.craq_codec.specs.NumberReading.{◌>>=◌, number_at}
 use Rattle.craq_codec.specs.PartReading.{key_at, value_at, request_at, pair_at, counted_at, mapped}
 
--- what follows a reply's tag
+-- decodes the bytes after a reply's tag
 unfoldable pub reply_body_at : ℕ → List ℕ → Option (Reply × List ℕ)
 reply_body_at tag bytes =
     if tag == 1 then mapped Written (number_at w64 bytes)

@@ -1,4 +1,4 @@
-//! Indexes the entries' writes in the table. `held` and `folding` call this.
+//! Indexes the entries' writes in the table. `held` and `applying` call this.
 ghost use Rattle.std.specs.Prelude.{◌≡◌, ℕ, ◌+◌, ◌-◌, ◌<◌, ◌≤◌, List, [], ◌∷◌, ◌++◌, IsOk, OnOk, OnErr, if◌then◌else◌, length, nat_le, drop, max, take};
 ghost use Rattle.craq_names.specs.Maps.{same_bytes};
 ghost use Rattle.craq_model.specs.Past.{values_in, values_after};

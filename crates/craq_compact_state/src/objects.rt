@@ -1,4 +1,4 @@
-//! Objects by key, each with its versions. `held` and `folding` call this.
+//! Objects by key, each with its versions. `held` and `applying` call this.
 ghost use Rattle.std.specs.Prelude.{◌≡◌, ◌≤◌, ℕ, List, [], T, IfOk, OnOk, drop, if◌then◌else◌, length};
 ghost use Rattle.std.specs.List.{AllByRecursion};
 ghost use Rattle.std.specs.FinMap.Entries.{is_sorted};

@@ -1,4 +1,4 @@
-//! The location of a version's value. `lookups`, `listing` and `objects` call this.
+//! The location of a version's value. `lookups`, `indexing` and `objects` call this.
 ghost use Rattle.std.specs.Prelude.{◌≡◌, ◌≤◌, [], length, unwrap_or, if◌then◌else◌};
 ghost use Rattle.std.specs.Option.{option_map};
 ghost use Rattle.craq_compact_state.specs.Placed.{has_some, later_in, settled_in};

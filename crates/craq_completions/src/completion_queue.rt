@@ -32,7 +32,7 @@ impl CompletionQueue {
         self.state.lock(rt).expect()
     }
 
-    /// Puts in a completion for which there is room. Drops one that nobody expects.
+    /// Puts in a completion for which there is room. Drops one that is not expected.
     pub(crate) fn put<R: Wait>(&self, rt: &R, token: Token, reply: Outcome) {
         let mut state = self.state.lock(rt);
         if !state.expects() {

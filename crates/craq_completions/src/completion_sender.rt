@@ -1,5 +1,5 @@
-//! `CompletionSender`: the right to put one completion into a queue that has room for it; made and used by
-//! `craq_workers`.
+//! `CompletionSender`: the right to put one completion into a queue that has room for it; made and
+//! used by `craq_running_node` and `craq_running_chain`.
 ghost use Rattle.std.specs.Prelude.{◌≡◌, IfOk};
 
 use crate::completion_queue::CompletionQueue;

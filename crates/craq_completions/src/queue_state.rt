@@ -1,5 +1,5 @@
-//! `QueueState`: the completions in a queue, with room for each that is expected; called by `letterbox`,
-//! under its lock.
+//! `QueueState`: the completions in a queue, with room for each that is expected; called by
+//! `completion_queue`, under its lock.
 ghost use Rattle.std.specs.Prelude.{◌≡◌, ◌≤◌, ◌↔◌, ◌+◌, ◌-◌, ◌++◌, [], ◌∷◌, None, false, true, IfSome, IsTrue, OnErr, OnOk};
 
 use crate::token::Token;

@@ -30,7 +30,7 @@ mode_tag Strong = 1
 mode_tag Eventual = 2
 mode_tag (Bounded above) = 3
 
--- what follows the tag of a mode: the bound of a bounded read
+-- the bytes after the tag of a mode: the bound of a bounded read
 abbrev pub mode_body : ReadMode → List ℕ
 mode_body Strong = []
 mode_body Eventual = []
@@ -62,7 +62,7 @@ ask_kind (asks.Update node pass u) = 1
 ask_kind (asks.Read node pass m o) = 2
 ask_kind asks.Status = 3
 
--- what follows the kind of a request
+-- the bytes after the kind of a request
 abbrev pub ask_body : ClientMessage → List ℕ
 ask_body (asks.Update node pass u) = number w32 node ++ (number w64 pass ++ update u)
 ask_body (asks.Read node pass m o) = number w32 node ++ (number w64 pass ++ (mode m ++ object o))
@@ -115,7 +115,7 @@ answer_kind (answers.Read pass version v) = 2
 answer_kind (answers.Refused r) = 3
 answer_kind (answers.Status t) = 4
 
--- what follows the kind of a reply
+-- the bytes after the kind of a reply
 abbrev pub answer_body : ClientReply → List ℕ
 answer_body (answers.Update pass r) = number w64 pass ++ reply r
 answer_body (answers.Read pass version v) = number w64 pass ++ (number w64 version ++ value v)

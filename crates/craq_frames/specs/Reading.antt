@@ -28,7 +28,7 @@ use Rattle.craq_frames.specs.declared.versions.Payload.TheVariants as payloads
 use Rattle.craq_frames.specs.declared.versions.Answered.{Answered}
 use Rattle.craq_frames.specs.declared.versions.Answered.TheVariants as replies
 
--- what follows the tag of a mode
+-- decodes the bytes after the tag of a mode
 unfoldable pub mode_body_at : ℕ → List ℕ → Option (ReadMode × List ℕ)
 mode_body_at tag bytes =
     if tag == 1 then Some (Strong, bytes)
@@ -58,7 +58,7 @@ asked_update x = asks.Update x.0 x.1.0 x.1.1
 abbrev pub asked_read : ℕ × (ℕ × (ReadMode × ObjectId)) → ClientMessage
 asked_read x = asks.Read x.0 x.1.0 x.1.1.0 x.1.1.1
 
--- what follows the kind of a request
+-- decodes the bytes after the kind of a request
 unfoldable pub ask_body_at : ℕ → List ℕ → Option (ClientMessage × List ℕ)
 ask_body_at kind bytes =
     if kind == 1 then mapped asked_update (pair_at (number_at w32) (pair_at (number_at w64) update_at) bytes)
@@ -133,7 +133,7 @@ answered_update x = answers.Update x.0 x.1
 abbrev pub answered_read : ℕ × (ℕ × List ℕ) → ClientReply
 answered_read x = answers.Read x.0 x.1.0 x.1.1
 
--- what follows the kind of a reply
+-- decodes the bytes after the kind of a reply
 unfoldable pub answer_body_at : ℕ → List ℕ → Option (ClientReply × List ℕ)
 answer_body_at kind bytes =
     if kind == 1 then mapped answered_update (pair_at (number_at w64) reply_at bytes)
@@ -166,14 +166,14 @@ few_at part bytes = do
   count ← number_at w8 bytes
   if nat_lt count.0 1 then None else if nat_lt many_limit count.0 then None else many_at part count.0 count.1
 
--- what follows a version and a kind
+-- decodes the bytes after a version and a kind
 unfoldable pub payload_body_at : ℕ → ℕ → List ℕ → Option (Payload × List ℕ)
 payload_body_at version kind bytes =
     if version == 1 then mapped (payloads.One First) (ask_body_at kind bytes)
     else if version == 2 then (if kind == many_asks then mapped payloads.Many (few_at ask_at bytes) else mapped (payloads.One Second) (ask_body_at kind bytes))
     else None
 
--- what follows a version and a kind of a server's payload
+-- decodes the bytes after a version and a kind of a server's payload
 unfoldable pub answered_body_at : ℕ → ℕ → List ℕ → Option (Answered × List ℕ)
 answered_body_at version kind bytes =
     if version == 1 then mapped (replies.One First) (answer_body_at kind bytes)

@@ -1,4 +1,4 @@
--- How a payload is answered, message by message.
+-- A payload is answered message by message.
 use Rattle.std.proofs.Common.{◌≡◌, ◌<◌, ℕ, ◌+◌, List, [], ◌∷◌, ◌++◌, length, Option, None, Some, Ok, Err, refl, sym, ap, ◌∙◌, append_assoc, subst, arith}
 use Rattle.std.proofs.lemmas.List.{append-nil}
 use Rattle.craq_names.specs.declared.refusal.Refusal.{Refusal}
@@ -16,7 +16,7 @@ use Rattle.craq_front.specs.Steps.{waiting, replied, IsFirst, Follows}
 use Rattle.craq_front.specs.Talk.{UnderWay}
 use Rattle.craq_front.proofs.Turning.{one_more}
 
--- where the bytes `old` were due, the payload is answered up to the message that is asked, or wholly
+-- after the unsent bytes `old`, the payload is answered up to the message that is asked, or wholly
 abbrev pub Standing : {D : Type 0} → Turn D → D → List ℕ → List ℕ → List ℕ → Option Asking → Option ClientMessage → D → Type 0
 Standing turn a payload old unsent asking (Some m) b = UnderWay turn a payload asking m b × (unsent ≡ old)
 Standing turn a payload old unsent asking None b = (reply : List ℕ) × (unsent ≡ old ++ frame reply) × Replies turn a payload reply b
@@ -34,7 +34,7 @@ at_first turn a payload old asking m h = (
   refl,
 )
 
--- how many messages are asked yet
+-- returns the number of messages that are not answered yet
 abbrev pub left : Option ClientMessage → Option Asking → ℕ
 left None asking = 0
 left (Some m) asking = length (waiting asking) + 1
@@ -57,7 +57,7 @@ last (Some asking) new r unsent f = f.4
 pub nothing_asked : (asking new : Option Asking) (r : ClientReply) (unsent : List ℕ) (next : Option ClientMessage) → next ≡ None → Follows asking r unsent new (Ok next) → new ≡ None
 nothing_asked asking new r unsent next none f = last asking new r unsent (subst (λ (x : Option ClientMessage). Follows asking r unsent new (Ok x)) none f)
 
--- want of memory alone ends an answer
+-- an answer ends only when out of memory
 memory_alone : (asking new : Option Asking) (r : ClientReply) (unsent : List ℕ) (e : Refusal) → Follows asking r unsent new (Err e) → (e ≡ refusals.Memory) × (unsent ≡ [])
 memory_alone asking new r unsent refusals.Memory f = (refl, f)
 memory_alone asking new r unsent _ f = absurd f

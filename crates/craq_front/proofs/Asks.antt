@@ -1,4 +1,4 @@
--- How long the payloads of messages are: each goes into a frame.
+-- Lengths of the payloads of messages: each goes into a frame.
 use Rattle.std.proofs.Common.{◌≡◌, ℕ, ◌+◌, ◌*◌, ◌≤◌, ◌<◌, ◌^◌, ◌↔◌, ◌⊎◌, inl, inr, Result, Ok, Err, IfErr, List, [], ◌∷◌, ◌++◌, length, ap, arith, length-append}
 use Rattle.std.specs.Int.{w8, w16, w32, w64}
 use Rattle.std.specs.List.{flat_map, AllByRecursion}
@@ -88,7 +88,7 @@ pub ask_few : (m : ClientMessage) (bytes : List ℕ) → EncodesAsk m bytes → 
 unfolding ask_encoding
 ask_few m bytes s = omega (arith, ap length s.encoding, tagged_few payload_version 300000 (ask m) (ask_short m s.fits))
 
--- a payload that goes into a frame is refused for want of memory alone
+-- a payload that goes into a frame is refused only when out of memory
 pub memory_alone : {T : Type 0} (r : Result T Refusal) (payload : List ℕ) → length payload ≤ payload_limit → ((r ≡ Err refusals.FrameTooLong) ↔ (payload_limit < length payload))
     → IfErr r (λ e. (e ≡ refusals.FrameTooLong) ⊎ (e ≡ refusals.Memory)) → IfErr r (λ e. e ≡ refusals.Memory)
 memory_alone (Ok x) payload few long h = tt

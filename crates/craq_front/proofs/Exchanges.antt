@@ -1,4 +1,4 @@
--- How an exchange ends, and that a frame comes to an end.
+-- Ends of an exchange, and that a frame comes to an end.
 use Rattle.std.proofs.Common.{◌≡◌, ℕ, zero, suc, ◌<◌, ◌⊎◌, inl, inr, List, ◌++◌, length, Result, Ok, Err, IfOk, IfErr, refl, sym, ap, subst, arith, length-append}
 use Rattle.std.specs.Int.{w32}
 use Rattle.craq_names.specs.declared.refusal.Refusal.{Refusal}

@@ -1,4 +1,4 @@
--- What is done with the next frame, by the steps of a conversation.
+-- The next frame, by the steps of a protocol codec.
 use Rattle.std.proofs.Common.{◌≡◌, ◌≤◌, ◌+◌, ℕ, List, [], ◌++◌, length, drop, true, Option, Result, Ok, Err, refl, sym, ap, subst, ◌∙◌}
 use Rattle.std.proofs.lemmas.List.{append-nil}
 use Rattle.craq_names.specs.declared.refusal.Refusal.{Refusal}
@@ -18,7 +18,7 @@ pub first_asked : (asking : Option Asking) (m : ClientMessage) (payload : List �
     → (rest : List ℕ) → Advances (frame payload ++ rest) rest [] asking (Ok (Ask m))
 first_asked asking m payload few first rest = (payload, refl, few, refl, first)
 
--- what came of a payload, once its frame is taken off the bytes in which it lay
+-- the outcome of a payload holds of the bytes in front of which its frame lay
 pub taken_off : (input left unsent payload rest : List ℕ) (asking : Option Asking) (r : Result Step Refusal) → input ≡ frame payload ++ rest → left ≡ drop (length payload + 4) input
     → ((rest : List ℕ) → Advances (frame payload ++ rest) rest unsent asking r) → Advances input left unsent asking r
 taken_off input left unsent payload rest asking r e l h =
@@ -31,7 +31,7 @@ not_begun turn a input rest unsent asking refusals.FrameTooLong h = (h, refl)
 not_begun turn a input rest unsent asking refusals.Memory h = (idle refl, h)
 not_begun turn a input rest unsent asking _ h = absurd h
 
--- the payload spells nothing
+-- the payload encodes nothing
 pub refused_one : {D : Type 0} (turn : Turn D) (a : D) (input rest unsent : List ℕ) (asking : Option Asking) → Advances input rest unsent asking (Ok Refused) → Next turn a input rest unsent a (Ok true)
 refused_one turn a input rest unsent asking h =
     served_one turn a a input rest unsent h.0 h.1 h.3 h.2 h.4 (nothing h.6 refl h.7)

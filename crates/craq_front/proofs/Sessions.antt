@@ -78,9 +78,9 @@ shorter (p ∷ ps) input rest e c =
 pub served_shorter : {D : Type 0} (turn : Turn D) (a b : D) (input rest unsent : List ℕ) → Served turn a input rest unsent 1 b → length rest < length input
 served_shorter turn a b input rest unsent h = shorter h.payloads input rest h.frames h.count
 
--- ---- how a session ends
+-- ---- ends of a session
 
--- the part that was written of what was due, where a write failed
+-- the part of the unsent bytes that was written, where a write failed
 pub write_failed : {D : Type 0} (turn : Turn D) (a b c : D) (read input left written unsent : List ℕ) (n k m : ℕ) (r : Result Bool Refusal)
     → Served turn a read input written n b → Batch turn b input left unsent k c r → Session turn a read (written ++ take m unsent) c writer (Err refusals.Io)
 write_failed turn a b c read input left written unsent n k m (Ok true) h t = (
@@ -145,7 +145,7 @@ write_failed turn a b c read input left written unsent n k m (Err refusals.Exhau
 )
 write_failed turn a b c read input left written unsent n k m (Err _) h t = absurd t
 
--- a refusal of the batch, after what was due was written
+-- a refusal of the batch, after the unsent bytes were written
 pub batch_refused : {D : Type 0} (turn : Turn D) (a b c : D) (read input left written unsent : List ℕ) (n k : ℕ) (e : Refusal)
     → (e ≡ refusals.Exhausted → IsUsedUp (n + k) read) → Served turn a read input written n b → Batch turn b input left unsent k c (Err e) → Session turn a read (written ++ unsent) c neither (Err e)
 batch_refused turn a b c read input left written unsent n k refusals.FrameTooLong many h t =

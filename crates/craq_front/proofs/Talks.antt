@@ -1,4 +1,4 @@
--- What a conversation made due answers what came to it.
+-- The replies that a protocol codec encodes answer the messages that came.
 use Rattle.std.proofs.Common.{◌≡◌, ◌≤◌, ℕ, ◌+◌, List, [], ◌∷◌, ◌++◌, length, Option, None, Some, Ok, refl, sym, ap, ◌∙◌, append_assoc, subst}
 use Rattle.std.proofs.lemmas.List.{append-nil}
 use Rattle.craq_frames.specs.declared.ask.ClientMessage.{ClientMessage}

@@ -21,7 +21,7 @@ pub all_more : {A : Type 0} (P : A → Type 0) (xs : List A) (x : A) → AllByRe
 all_more P [] x h p = (p, tt)
 all_more P (y ∷ xs) x h p = (h.0, all_more P xs x h.1 p)
 
--- what is removed in front of some values, and what is left of them
+-- a value removed in front of some values, with the rest, gives them back
 pub removed_first : {A : Type 0} (xs rest : List A) (x : A) → (len : ℕ) → len ≡ length xs → false ≡ eqb len 0 → x ≡ slice_index_or xs 0 x → rest ≡ drop 1 xs → xs ≡ x ∷ rest
 removed_first [] rest x len same some first others = let no : false ≡ true = some ∙ ap (λ (n : ℕ). eqb n 0) same in absurd cc
 removed_first (y ∷ xs) rest x len same some first others = ap (λ z. z ∷ xs) (sym first) ∙ ap (λ zs. x ∷ zs) (sym others)
@@ -43,18 +43,18 @@ allowed_keep : (rs : List ClientReply) → AllByRecursion IsAllowed rs → AllBy
 allowed_keep [] h = tt
 allowed_keep (r ∷ rs) h = (h.0.rules, allowed_keep rs h.1)
 
--- the replies to a payload of several messages can be spelled
+-- the replies to a payload of several messages can be encoded
 pub many_answered : {D : Type 0} (turn : Turn D) (a b : D) (ms : List ClientMessage) (rs : List ClientReply) → AreFew AskFits ms → Turns turn a ms rs b → AllByRecursion IsAllowed rs → AreFew IsAnswer rs
 many_answered turn a b ms rs f h k =
     let len = turns_len turn a b ms rs h in
     record { some = omega (arith, len, f.some); few = omega (arith, len, f.few); each = allowed_keep rs k }
 
--- what holds in any case holds where a call failed
+-- a statement that holds in any case holds where a call failed
 pub always : {T E P : Type 0} (r : Result T E) → P → OnErr r P
 always (Ok x) p = tt
 always (Err e) p = p
 
--- a reply that isn't told leaves the payload begun
+-- a reply that is not encoded leaves the payload begun
 pub replies_begin : {D : Type 0} (turn : Turn D) (a b : D) (payload reply : List ℕ) → Replies turn a payload reply b → Begins turn a payload b
 replies_begin turn a b payload reply (one version m r spelled t reported) = asked (payloads.One version m) (m ∷ []) [] (r ∷ []) spelled refl (b, t, refl)
 replies_begin turn a b payload reply (many ms rs spelled t reported) = asked (payloads.Many ms) ms [] rs spelled (sym (append-nil ms)) t

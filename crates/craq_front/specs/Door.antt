@@ -1,4 +1,4 @@
--- What a door may answer.
+-- Replies that a request handler may give.
 use Rattle.std.specs.Prelude.{◌≤◌, ◌+◌, ⊤, ℕ, length}
 use Rattle.craq_frames.specs.declared.answer.ClientReply.{ClientReply}
 use Rattle.craq_frames.specs.declared.answer.ClientReply.TheVariants as answers
@@ -15,7 +15,7 @@ IsShort (answers.Read pass version v) = ⊤
 IsShort (answers.Refused r) = ⊤
 IsShort (answers.Status t) = length t + 6 ≤ reply_limit
 
--- the reply can be spelled, in a payload of at most 100,000 bytes
+-- the reply can be encoded, in a payload of at most 100,000 bytes
 pub record IsAllowed (r : ClientReply) : Type 0 where
   pub rules : IsAnswer r
   pub short : IsShort r

@@ -1,4 +1,4 @@
--- What is sent and received for one message.
+-- The bytes that a client sends and receives for one message.
 use Rattle.std.specs.Prelude.{◌≡◌, ◌⊎◌, ℕ, List, [], ◌++◌, Result, Ok, Err}
 use Rattle.craq_names.specs.declared.refusal.Refusal.{Refusal}
 use Rattle.craq_names.specs.declared.refusal.Refusal.TheVariants as refusals
@@ -11,7 +11,7 @@ use Rattle.craq_frames.specs.Payload.{EncodesAsk, EncodesAnswer}
 abbrev pub IsFrameOf : ClientMessage → List ℕ → Type 0
 IsFrameOf m bytes = (payload : List ℕ) × EncodesAsk m payload × (bytes ≡ frame payload)
 
--- what was sent and then received when `exchange` answers so, and how many calls failed
+-- the bytes that were sent and then received when `exchange` answers so, and the number of calls that failed
 abbrev pub Exchanged : ClientMessage → List ℕ → List ℕ → ℕ → Result ClientReply Refusal → Type 0
 -- the frame of the reply came
 Exchanged m sent received faults (Ok r) =
@@ -23,7 +23,7 @@ Exchanged m sent received faults (Err refusals.BadFrame) =
 Exchanged m sent received faults (Err refusals.FrameTooLong) = IsFrameOf m sent × (faults ≡ 0) × BeginsTooLong received
 -- less than a frame came, and then the end
 Exchanged m sent received faults (Err refusals.Closed) = IsFrameOf m sent × (faults ≡ 0) × IsPartial received
--- a write failed, and a beginning of the frame is sent; or a read failed, and less than a frame came
+-- a write failed, and a prefix of the frame is sent; or a read failed, and less than a frame came
 Exchanged m sent received faults (Err refusals.Io) =
     (faults ≡ 1) × (((more : List ℕ) × IsFrameOf m (sent ++ more) × (received ≡ [])) ⊎ (IsFrameOf m sent × IsPartial received))
 -- nothing is sent, or the whole frame

@@ -1,4 +1,4 @@
--- What a server reads and writes: frames of payloads in, and a frame of a reply out for each of them.
+-- The bytes that a server reads and writes: frames of payloads in, and a frame of a reply out for each of them.
 use Rattle.std.specs.Prelude.{◌≡◌, ◌+◌, ◌-◌, ◌^◌, ◌≤◌, ◌<◌, ◌⊎◌, ℕ, Bool, true, false, List, [], ◌∷◌, ◌++◌, length, Result, Ok, Err}
 use Rattle.std.specs.List.{flat_map, AllByRecursion}
 use Rattle.craq_names.specs.declared.refusal.Refusal.{Refusal}
@@ -15,7 +15,7 @@ use Rattle.craq_frames.specs.declared.versions.Answered.TheVariants as replies
 use Rattle.craq_frames.specs.Frame.{frame, payload_limit, BeginsTooLong, IsPartial}
 use Rattle.craq_frames.specs.Versions.{EncodesPayload, EncodesAnswered}
 
--- how a door goes from one state to another: old, what it is asked, what it answers, new
+-- relation of a request handler's states: the old one, a message, the reply, and the new state
 abbrev pub Turn : Type 0 → Type 1
 Turn D = D → ClientMessage → ClientReply → D → Type 0
 
@@ -29,8 +29,8 @@ Turns turn old _ _ new = ⊥
 abbrev pub refused : Refusal → Answered
 refused r = replies.One First (answers.Refused r)
 
--- the reply to a payload: to one message the door's, in the payload's version; to several messages the door's to each, in
--- order; to a payload that spells nothing the refusal BadFrame, and the door is not asked
+-- the reply to a payload: to one message the handler's, in the payload's version; to several messages the handler's to each, in
+-- order; to a payload that encodes nothing the refusal BadFrame, and the handler is not asked
 pub data Replies {D : Type 0} (turn : Turn D) (old : D) (payload reply : List ℕ) (new : D) : Type 0 where
   one : (version : PayloadVersion) (m : ClientMessage) (r : ClientReply)
       → EncodesPayload (payloads.One version m) payload → turn old m r new → EncodesAnswered (replies.One version r) reply → Replies turn old payload reply new
@@ -64,13 +64,13 @@ abbrev pub reported : Answered → List ClientReply
 reported (replies.One version r) = r ∷ []
 reported (replies.Many rs) = rs
 
--- the door was asked nothing, or some first messages of the payload, and their replies are not told
+-- the request handler was asked nothing, or some first messages of the payload, whose replies are not written
 pub data Begins {D : Type 0} (turn : Turn D) (old : D) (payload : List ℕ) (new : D) : Type 0 where
   unasked : new ≡ old → Begins turn old payload new
   asked : (p : Payload) (ms more : List ClientMessage) (rs : List ClientReply)
       → EncodesPayload p payload → messages p ≡ ms ++ more → Turns turn old ms rs new → Begins turn old payload new
 
--- the same of the frame that the bytes begin with
+-- the messages at the front of the payload in the first frame of `rest` were asked, or none was
 pub data BeginsNext {D : Type 0} (turn : Turn D) (old : D) (rest : List ℕ) (new : D) : Type 0 where
   idle : new ≡ old → BeginsNext turn old rest new
   begun : (payload after : List ℕ) → rest ≡ frame payload ++ after → Begins turn old payload new → BeginsNext turn old rest new
@@ -82,7 +82,7 @@ pub record RefusesLength (rest last : List ℕ) : Type 0 where
   pub spelled : EncodesAnswered (refused refusals.FrameTooLong) reply
   pub framed : last ≡ frame reply
 
--- which stream counted a failed call
+-- the stream that counted a failed call
 pub data StreamFault : Type 0 where
   neither : StreamFault
   reader : StreamFault
@@ -102,7 +102,7 @@ write_faults writer = 1
 abbrev pub IsUsedUp : ℕ → List ℕ → Type 0
 IsUsedUp n read = 2 ^ 64 - 1 ≤ n + length read
 
--- what was read and written when `serve` answers so
+-- the bytes that were read and written when `serve` answers so
 abbrev pub Session : {D : Type 0} → Turn D → D → List ℕ → List ℕ → D → StreamFault → Result ℕ Refusal → Type 0
 -- all frames that were read are answered, and no byte is left
 Session turn old read written new neither (Ok n) = Served turn old read [] written n new
@@ -112,7 +112,7 @@ Session turn old read written new neither (Err refusals.Closed) =
 -- a length above the limit is left, and its refusal is the last frame written
 Session turn old read written new neither (Err refusals.FrameTooLong) =
     (rest : List ℕ) × (n : ℕ) × (replied : List ℕ) × (last : List ℕ) × Served turn old read rest replied n new × RefusesLength rest last × (written ≡ replied ++ last)
--- the frames up to some place are answered, and of the next the door was asked a beginning at most
+-- the frames up to some place are answered, and the handler was asked at most a prefix of the next
 Session {D} turn old read written new neither (Err refusals.Memory) =
     (rest : List ℕ) × (n : ℕ) × (mid : D) × Served turn old read rest written n mid × BeginsNext turn mid rest new
 Session turn old read written new neither (Err refusals.Exhausted) =
@@ -120,7 +120,7 @@ Session turn old read written new neither (Err refusals.Exhausted) =
 -- less than a frame is left where a read failed
 Session turn old read written new reader (Err refusals.Io) =
     (rest : List ℕ) × (n : ℕ) × Served turn old read rest written n new × IsPartial rest
--- a beginning of the replies is written where a write failed
+-- a prefix of the replies is written where a write failed
 Session {D} turn old read written new writer (Err refusals.Io) =
     (rest : List ℕ) × (n : ℕ) × (mid : D) × (replied : List ℕ) × (last : List ℕ) × (more : List ℕ)
     × Served turn old read rest replied n mid × BeginsNext turn mid rest new × ((last ≡ []) ⊎ RefusesLength rest last) × (written ++ more ≡ replied ++ last)
@@ -128,7 +128,7 @@ Session turn old read written new fault result = ⊥
 
 -- ---- the parts of serving, on bytes that wait to be cut into frames and bytes that wait to be written
 
--- what is done with the next frame of the bytes `input`: `rest` is left of them, and the bytes `unsent` are to be written
+-- the outcome of the next frame of the bytes `input`: `rest` is left of them, and the bytes `unsent` are to be written
 abbrev pub Next : {D : Type 0} → Turn D → D → List ℕ → List ℕ → List ℕ → D → Result Bool Refusal → Type 0
 Next turn old input rest unsent new (Ok true) = Served turn old input rest unsent 1 new
 Next turn old input rest unsent new (Ok false) = IsPartial input × (rest ≡ input) × (unsent ≡ []) × (new ≡ old)
@@ -136,7 +136,7 @@ Next turn old input rest unsent new (Err refusals.FrameTooLong) = RefusesLength 
 Next turn old input rest unsent new (Err refusals.Memory) = BeginsNext turn old input new × (unsent ≡ [])
 Next turn old input rest unsent new result = ⊥
 
--- the same of the next frames, n of them; true where less than a frame is left
+-- the outcome of the next n frames; true where less than a frame is left
 abbrev pub Batch : {D : Type 0} → Turn D → D → List ℕ → List ℕ → List ℕ → ℕ → D → Result Bool Refusal → Type 0
 Batch turn old input rest unsent n new (Ok true) = Served turn old input rest unsent n new × IsPartial rest
 Batch turn old input rest unsent n new (Ok false) = Served turn old input rest unsent n new

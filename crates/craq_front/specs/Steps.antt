@@ -1,4 +1,4 @@
--- The steps of a conversation: what comes next, and what a reply comes to.
+-- Steps of a protocol codec: the next message, and the outcome of a reply.
 use Rattle.std.specs.Prelude.{◌≡◌, ◌≤◌, ℕ, List, [], ◌∷◌, ◌++◌, length, Option, None, Some, Result, Ok, Err}
 use Rattle.std.specs.List.{AllByRecursion}
 use Rattle.craq_names.specs.declared.refusal.Refusal.{Refusal}
@@ -44,12 +44,12 @@ pub record IsFirst (asking : Option Asking) (m : ClientMessage) (payload : List 
   pub first : messages p ≡ m ∷ waiting asking
   pub none : replied asking ≡ []
 
--- what comes next: `rest` is left of the bytes `input`, and the bytes `unsent` are to be written
+-- the next step: `rest` is left of the bytes `input`, and the bytes `unsent` are to be written
 abbrev pub Advances : List ℕ → List ℕ → List ℕ → Option Asking → Result Step Refusal → Type 0
 -- the first message of the payload in front is asked
 Advances input rest unsent asking (Ok (Ask m)) =
     (payload : List ℕ) × (input ≡ frame payload ++ rest) × (length payload ≤ payload_limit) × (unsent ≡ []) × IsFirst asking m payload
--- the payload in front spells nothing, and its refusal is due
+-- the payload in front encodes nothing, and its refusal is unsent
 Advances input rest unsent asking (Ok Refused) =
     (payload : List ℕ) × (reply : List ℕ) × (input ≡ frame payload ++ rest) × (length payload ≤ payload_limit) × (unsent ≡ frame reply) × (asking ≡ None)
     × ((p : Payload) → EncodesPayload p payload → ⊥) × EncodesAnswered (refused refusals.BadFrame) reply
@@ -58,7 +58,7 @@ Advances input rest unsent asking (Err refusals.FrameTooLong) = RefusesLength in
 Advances input rest unsent asking (Err refusals.Memory) = unsent ≡ []
 Advances input rest unsent asking (Err _) = ⊥
 
--- what bytes that came come to, behind which `input` is all that is there: the first message of the payload in front is asked, and
+-- the outcome of bytes that came, after which `input` is all that is there: the first message of the payload in front is asked, and
 -- `rest` is left behind that payload; or no message is asked, and all of it is left
 abbrev pub Receives : List ℕ → List ℕ → Option Asking → Option ClientMessage → Type 0
 Receives input rest asking (Some m) = Advances input rest [] asking (Ok (Ask m))
@@ -69,19 +69,19 @@ abbrev pub all_replies : Asking → ClientReply → Answered
 all_replies (One version) r = replies.One version r
 all_replies (Many several) r = replies.Many (several.1 ++ r ∷ [])
 
--- what a reply comes to: the bytes `unsent` are to be written
+-- the outcome of a reply: the bytes `unsent` are to be written
 abbrev pub Follows : Option Asking → ClientReply → List ℕ → Option Asking → Result (Option ClientMessage) Refusal → Type 0
 -- the next message of the payload is asked
 Follows (Some asking) r unsent new (Ok (Some m)) =
     (waiting (Some asking) ≡ m ∷ waiting new) × (replied new ≡ replied (Some asking) ++ r ∷ []) × ((p : Payload) → IsForm (Some asking) p → IsForm new p) × (unsent ≡ [])
--- it was the last, and the frame of all replies is due
+-- it was the last, and the frame of all replies is unsent
 Follows (Some asking) r unsent new (Ok None) =
     (reply : List ℕ) × (waiting (Some asking) ≡ []) × (unsent ≡ frame reply) × EncodesAnswered (all_replies asking r) reply × (new ≡ None)
 Follows None r unsent new (Ok found) = (found ≡ None) × (unsent ≡ []) × (new ≡ None)
 Follows asking r unsent new (Err refusals.Memory) = unsent ≡ []
 Follows asking r unsent new (Err _) = ⊥
 
--- what a reply comes to among several messages, of which those `ws` wait and those before have the replies `rs`
+-- the outcome of a reply among several messages, of which those `ws` wait and those before have the replies `rs`
 abbrev pub AfterReply : List ClientMessage → List ClientReply → ClientReply → Replied → Type 0
 AfterReply ws rs r (after.Asks m several) = (ws ≡ m ∷ several.0) × (several.1 ≡ rs ++ r ∷ [])
 AfterReply ws rs r (after.All all) = (ws ≡ []) × (all ≡ rs ++ r ∷ []) × (length all ≤ many_limit) × AllByRecursion IsAllowed all

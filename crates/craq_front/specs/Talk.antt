@@ -1,4 +1,4 @@
--- What a conversation made due answers what came to it.
+-- The replies that a protocol codec encodes answer the messages that came.
 use Rattle.std.specs.Prelude.{◌≡◌, ◌≤◌, ℕ, List, [], ◌∷◌, ◌++◌, length, Option, None, Some}
 use Rattle.craq_frames.specs.declared.ask.ClientMessage.{ClientMessage}
 use Rattle.craq_frames.specs.declared.answer.ClientReply.{ClientReply}
@@ -9,7 +9,7 @@ use Rattle.craq_front.specs.declared.protocol_codec.Asking.{Asking}
 use Rattle.craq_front.specs.Serving.{Turn, Turns, Served, messages}
 use Rattle.craq_front.specs.Steps.{waiting, replied, IsForm}
 
--- the turns of a conversation: each message that was asked, with its reply, in order
+-- the turns of a protocol codec: each message that was asked, with its reply, in order
 abbrev pub History : Type 0
 History = List (ClientMessage × ClientReply)
 
@@ -26,8 +26,8 @@ pub record UnderWay {D : Type 0} (turn : Turn D) (old : D) (payload : List ℕ) 
   pub rest : messages p ≡ before ++ m ∷ waiting asking
   pub turns : Turns turn old before (replied asking) new
 
--- the bytes `read` came, and `input` of them are not yet cut off as frames; `made` was made due; of the payload under way the
--- message m is asked, or no payload is under way; and these were the turns
+-- the bytes `read` came, and `input` of them are not yet cut off as frames; `made` are the bytes of the replies; of the payload under
+-- way the message m is asked, or no payload is under way; and these were the turns
 pub data Stands (read made input : List ℕ) (asking : Option Asking) (m : Option ClientMessage) (turns : History) : Type 0 where
   between : (n : ℕ) → Served next_turn [] read input made n turns → m ≡ None → Stands read made input asking m turns
   within : (n : ℕ) (payload : List ℕ) (earlier : History) (now : ClientMessage) → length payload ≤ payload_limit

@@ -1,4 +1,4 @@
-//! Appends the frames of replies to the unsent bytes; called by `conversation`.
+//! Appends the frames of replies to the unsent bytes; called by `protocol_codec`.
 ghost use Rattle.std.specs.Prelude.{◌≡◌, ℕ, List, ◌++◌, IfErr, OnOk, OnErr};
 ghost use Rattle.std.specs.List.{AllByRecursion};
 ghost use Rattle.craq_frames.specs.Frame.{frame};

@@ -1,4 +1,4 @@
-//! `Several`: a payload of several requests while it is answered; for `conversation`.
+//! `Several`: a payload of several requests while it is answered; for `protocol_codec`.
 use craq_frames::{ClientMessage, ClientReply};
 use craq_names::Items;
 use std::alloc::{AllocError, Global};

@@ -1,4 +1,4 @@
--- Authors are told apart, and what is left of a right.
+-- Authors differ, and the part of a right that is left.
 use Rattle.std.proofs.Common.{◌≡◌, ◌≢◌, ℕ, ◌==◌, ◌&&◌, ◌||◌, Bool, true, false, true≢false, List, [], ◌∷◌, ◌++◌, refl, ap, sym, ◌∙◌, subst, eq-eqb, arith}
 use Rattle.std.proofs.lemmas.Bool.{eqb-true}
 use Rattle.std.proofs.lemmas.List.{append-nil}
@@ -54,7 +54,7 @@ any_more (u ∷ us) k a e =
     let rest = any_more us k a both.1 in
     (rest.0, rw (both.0) rest.1)
 
--- who may give a right has it
+-- an author that may give a right has it
 pub owns_given : (a : Author) (r : Right) → MayGive r a → Owns r a
 owns_given a Nothing may = may
 owns_given a (One k) may = absurd may
@@ -67,7 +67,7 @@ other_kind c n k e = cc
 same_client : (k l : ℕ) → Client k ≡ Client l → k ≡ l
 same_client k l e = cc
 
--- what is left after it was given: all but it
+-- an author that is still owned after one was given was owned before, and is another than that one
 pub owns_left : (k a : Author) (r : Right) → MayGive r k → Owns (without k r) a → Owns r a × (a ≢ k)
 owns_left k a Nothing may o = absurd may
 owns_left k a (One m) may o = absurd may

@@ -84,7 +84,7 @@ module _ {E : Type 0} (author : E → Author) (holds : List E → Type 0) where
             (at_end (set views i v) (witness v) u j e);
       }
 
-  -- what a seat gives away is no longer its own
+  -- the rule holds after a seat gives a right away: it is then the new seat's own
   pub gives : (i : ℕ) (k : Author) (v : View E) (views : List (View E)) → MayGive v.right k → Kept author holds views → get_elem? views i ≡ some v
       → Kept author holds (set views i (after_giving k v) ++ given k v ∷ [])
   gives i k v views may kept at =
@@ -123,7 +123,7 @@ module _ {E : Type 0} (author : E → Author) (holds : List E → Type 0) where
             (at_end (set views i (after_giving k v)) (given k v) u j e);
       }
 
-  -- a seat is told what another has seen
+  -- a seat learns the prefix that another has seen
   hears_of : (i : ℕ) (v : View E) (other : ℕ) (w : View E) (views : List (View E)) → Kept author holds views → get_elem? views i ≡ some v → ¬ (other ≡ i)
       → get_elem? (set views i (informed v w)) other ≡ some w → Kept author holds (set (set views i (informed v w)) other spent)
   hears_of i v other w views kept at apart there =
@@ -142,7 +142,7 @@ module _ {E : Type 0} (author : E → Author) (holds : List E → Type 0) where
             (record { seen = prefix_nil kept.log; reported = prefix_nil kept.log; mine = λ a o. absurd o });
       }
 
-  -- ---- the same of tables
+  -- ---- the rule of tables
 
   abbrev pub Law : State ℕ (View E) → Type 0
   Law s = Kept author holds s.views

@@ -31,7 +31,7 @@ module _ {A : Type 0} where
         | inr r ↦ inr (r.0, cc (heads, r.1))
       ]
 
-  -- what stands in a list with one more at its end stands in the list, or is the last
+  -- an element of a list with one more at its end is an element of the list, or the last
   pub at_end : (l : List A) (a b : A) (j : ℕ) → get_elem? (l ++ a ∷ []) j ≡ some b → (get_elem? l j ≡ some b) ⊎ ((j ≡ length l) × (a ≡ b))
   at_end [] a b zero e = inr (refl, some-injective a b e)
   at_end [] a b (suc j) e = absurd (some-ne-none b (sym e))

@@ -1,4 +1,4 @@
--- What the history's seats know, and the rule that all of them keep.
+-- Knowledge of the history's seats, and the rule that all of them keep.
 use Rattle.std.specs.Prelude.{◌≡◌, ℕ, ⊤, List, [], Option, Some, None}
 use mathlib.Core.Option.{some}
 use mathlib.Core.List.{IsPrefix}
@@ -19,13 +19,13 @@ no_history = record { words = 0; slots = 0; views_name = 0; atom = 0; block = 0;
 abbrev pub no_author : Author
 no_author = Client 0
 
--- who has the right to an author's entries knows all of them, and no other seat has it
+-- the seat that has the right to an author's entries knows all of them, and no other seat has the right
 pub record Fits {E : Type 0} (author : E → Author) (log : List E) (seat : Author → ℕ) (i : ℕ) (v : View E) : Type 0 where
   pub seen : IsPrefix v.seen log
   pub reported : IsPrefix v.reported log
   pub mine : (a : Author) → Owns v.right a → (seat a ≡ i) × (of author a v.seen ≡ of author a log)
 
--- there is one history that keeps the rule, and it begins with what each seat has seen and was told
+-- there is one history that keeps the rule, and the prefixes that each seat has seen and learned are prefixes of it
 pub record Kept {E : Type 0} (author : E → Author) (holds : List E → Type 0) (views : List (View E)) : Type 0 where
   pub log : List E
   pub seat : Author → ℕ
@@ -79,7 +79,7 @@ Adds author holds o m w = AddsOne author holds m.0 w.0 o × (w.1 ≡ m.1)
 abbrev pub Sees : {E : Type 0} → (E → Author) → (List E → Type 0) → Me ℕ (View E) → Me ℕ (View E) → Type 0
 Sees author holds m w = Looks author holds m.0 w.0 × (w.1 ≡ m.1)
 
--- ---- what the parts keep
+-- ---- invariants of the parts
 
 -- the seat is at the history, has no right, and has seen a history that keeps the rule
 pub record IsWitness {E : Type 0} (holds : List E → Type 0) (id : HistoryId) (s : Seat ℕ (View E)) : Type 0 where
@@ -109,13 +109,13 @@ pub record IsOpened {E : Type 0} (holds : List E → Type 0) (id : HistoryId) (s
   pub me : s.me ≡ (first_view, [])
   pub history : holds []
 
--- who may give the rights of all authors but these
+-- the seat may give the rights of all authors except these
 pub record IsRegistrar {E : Type 0} (holds : List E → Type 0) (id : HistoryId) (used : List Author) (next : ℕ) (s : Seat ℕ (View E)) : Type 0 where
   pub at : s.table_id ≡ id
   pub me : s.me ≡ (view [] (Others used next), [])
   pub history : holds []
 
--- what a contract sees of a registrar: whose rights were given
+-- the view that contracts have of a registrar: the authors whose rights were given
 pub record Given : Type 0 where
   pub used : List Author
   pub next : ℕ

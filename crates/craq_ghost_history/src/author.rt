@@ -1,7 +1,7 @@
-//! `Author`: who adds entries to a history; and `Right`, which exists in the proofs alone.
+//! `Author`: an author of a history's entries; and `Right`, which exists in the proofs alone.
 use std::collections::LinkedList;
 
-/// Who adds entries to a history.
+/// An author: it adds entries to a history.
 #[derive(Clone, Copy, Debug, PartialEq, Eq)]
 pub enum Author {
     /// A node of a chain, or the chain's master as node 0.

@@ -1,4 +1,5 @@
-//! `History`: a list of entries that only grows, in the proofs alone; and the seats that know prefixes of it.
+//! `History`: a list of entries that only grows, in the proofs alone; and the seats that know
+//! prefixes of it.
 ghost use Rattle.std.specs.Prelude.{◌≡◌, [], Some};
 ghost use Rattle.craq_ghost_history.specs.Authors.{MayGive, Owns};
 ghost use Rattle.craq_ghost_history.specs.Histories.{MayAdd};
@@ -34,8 +35,8 @@ impl Named for Brand {
     ghost history = { no_history };
 }
 
-/// The knowledge of a seat: a prefix of the history that it has seen, another that it was told of, and its right. No value
-/// of it is made.
+/// The knowledge of a seat: a prefix of the history that it has seen, another that it has learned
+/// from a seat, and its right. No value of it is made.
 pub struct View<E> {
     pub seen: LinkedList<E>,
     pub reported: LinkedList<E>,
@@ -127,7 +128,7 @@ impl<E, K: Choosing> Split<View<E>> for Giving<K> {
     ghost right = { λ v. given K.chosen v };
 }
 
-/// A seat is told what another has seen.
+/// A seat learns the prefix that another has seen.
 struct Hearing;
 
 impl<E> Join<View<E>> for Hearing {
@@ -138,7 +139,8 @@ impl<E> Join<View<E>> for Hearing {
     ghost spent = { spent };
 }
 
-/// The history that the threads of a store share. It holds one word, which nobody writes: each step is a load of it.
+/// The history that the threads of a store share. It holds one word, which nobody writes: each step
+/// is a load of it.
 #[derive(Drop)]
 pub struct History<E, X: HistoryRule<E>, N: Named> {
     pub(crate) table: Table<u8, View<E>, (), Law<X>, Global>,

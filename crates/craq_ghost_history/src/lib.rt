@@ -1,6 +1,7 @@
-//! A list of entries that only grows and exists in the proofs alone, under a rule that is the user's: each author's right
-//! is given once, and a token, which has no bytes, is a prefix that was seen. `craq_store_history` has the entries of a store.
-//! A step runs as one load of a word that nobody writes; it cannot fail, wait or allocate.
+//! A list of entries that only grows and exists in the proofs alone, under a rule that is the
+//! user's: each author's right is given once, and a token, which has no bytes, is a prefix that was
+//! seen. `craq_store_history` has the entries of a store. A step runs as one load of a word that
+//! nobody writes; it cannot fail, wait or allocate.
 #![tactic(auto)]
 
 mod author;

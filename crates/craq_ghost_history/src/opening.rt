@@ -1,4 +1,5 @@
-//! `Opened`: a history before its first entry; and `Registrar`, which gives each author's right once.
+//! `Opened`: a history before its first entry; and `Registrar`, which gives each author's right
+//! once.
 ghost use Rattle.std.specs.Prelude.{◌≡◌, ◌+◌, ◌∷◌, ◌++◌, [], IfSome, IsNone, true};
 ghost use Rattle.craq_ghost_history.specs.Authors.{is_used};
 ghost use Rattle.craq_ghost_history.specs.declared.author.Author.TheVariants.{Client};
@@ -56,7 +57,7 @@ impl<E, X: HistoryRule<E>> Opened<E, X> {
         Ok(Opened { table, seat })
     }
 
-    /// Returns the history under a name, and who gives the rights to its entries.
+    /// Returns the history under a name, and the registrar, which gives the rights to its entries.
     pub fn named<N: Named>(self, alloc: Global) -> (History<E, X, N>, Registrar<E, X, N>)
         requires { self ≡ N.history }
     {
@@ -90,8 +91,8 @@ fn is_given(used: &[Author], chain: u64, node: u64) -> bool
 }
 
 impl<E, X: HistoryRule<E>, N: Named> Registrar<E, X, N> {
-    /// Gives the right to the entries of this node, or of a chain's master as node 0. None: it was given before, or there
-    /// is no memory.
+    /// Gives the right to the entries of this node, or of a chain's master as node 0. None: it was
+    /// given before, or there is no memory.
     pub fn node(
         &mut self,
         history: &History<E, X, N>,

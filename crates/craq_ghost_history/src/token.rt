@@ -1,4 +1,5 @@
-//! `Token`: a prefix of the history that was seen. It has no bytes; what crosses threads carries one.
+//! `Token`: a prefix of the history that was seen. It has no bytes; what crosses threads carries
+//! one.
 ghost use Rattle.std.specs.Prelude.{◌≡◌};
 ghost use mathlib.Core.List.{IsPrefix};
 ghost use Rattle.craq_ghost_history.specs.Histories.{AreComparable};
@@ -61,7 +62,8 @@ impl<E, X: HistoryRule<E>, N: Named> Token<E, X, N> {
         history.look(&mut self.seat);
     }
 
-    /// Shows that two tokens of one store have seen prefixes of one history: one begins with the other. Neither changes.
+    /// Shows that two tokens of one store have seen prefixes of one history: one begins with the
+    /// other. Neither changes.
     pub fn compare(&mut self, history: &History<E, X, N>, other: &mut Self)
         ensures comparable { AreComparable self.old other.old }
         ensures this { self.new ≡ self.old }

@@ -1,4 +1,5 @@
-//! `Writer`: the right to one author's entries, which is given once; a node, a master or a client's session has it.
+//! `Writer`: the right to one author's entries, which is given once; a node, a master or a client's
+//! session has it.
 ghost use Rattle.std.specs.Prelude.{◌≡◌, []};
 ghost use mathlib.Core.List.{IsPrefix};
 ghost use Rattle.craq_ghost_history.specs.Authors.{of};
@@ -10,7 +11,8 @@ use crate::token::Token;
 use atomic_table::Seat;
 use std::marker::{Model, PhantomData};
 
-/// The right to one author's entries: no other writer adds any, and this one knows all of them. It has no bytes.
+/// The right to one author's entries: no other writer adds any, and this one knows all of them. It
+/// has no bytes.
 #[derive(Drop)]
 pub struct Writer<E, X: HistoryRule<E>, N: Named> {
     seat: Seat<u8, View<E>>,
@@ -41,7 +43,8 @@ impl<E, X: HistoryRule<E>, N: Named> Writer<E, X, N> {
         }
     }
 
-    /// Adds an entry of the author, after all that the writer has seen. Returns a token that has seen it.
+    /// Adds an entry of the author, after all that the writer has seen. Returns a token that has
+    /// seen it.
     pub fn add(&mut self, history: &History<E, X, N>, entry: &E) -> Token<E, X, N>
         requires own { X.author entry.now ≡ self.old.author }
         requires may { MayAdd X.author X.holds self.old.seen [] entry.now }
@@ -53,7 +56,8 @@ impl<E, X: HistoryRule<E>, N: Named> Writer<E, X, N> {
         Token::of(history.tell(&mut self.seat))
     }
 
-    /// Adds an entry of the author, after all that the writer and the token have seen. Returns a token that has seen it.
+    /// Adds an entry of the author, after all that the writer and the token have seen. Returns a
+    /// token that has seen it.
     pub fn add_after(
         &mut self,
         history: &History<E, X, N>,
@@ -72,7 +76,8 @@ impl<E, X: HistoryRule<E>, N: Named> Writer<E, X, N> {
         Token::of(history.tell(&mut self.seat))
     }
 
-    /// Sees all that there is, and so all that the token has seen. The author has no more entries by it.
+    /// Sees all that there is, and so all that the token has seen. The author has no more entries
+    /// by it.
     pub fn learn(&mut self, history: &History<E, X, N>, reported: Token<E, X, N>)
         ensures this { IsPrefix self.old.seen self.new.seen }
         ensures that { IsPrefix reported self.new.seen }

@@ -1,4 +1,5 @@
-//! `ChainBook`: a master's cell that a running store keeps behind a lock; used by `craq_workers`.
+//! `ChainBook`: a master's cell that a running store keeps behind a lock; used by
+//! `craq_running_chain` and `craq_workers`.
 ghost use Rattle.std.specs.Prelude.{◌≡◌, ◌⊎◌, ◌↔◌, Err, IfErr, IfOk, OnOk};
 ghost use Rattle.craq_epochs.specs.Mastered as masters;
 ghost use Rattle.craq_locked_chain.specs.Membered.{CanBecome};

@@ -1,5 +1,5 @@
-//! `LockedChain`: a chain's cells whose locks are held, as one value that lends them; used to audit a
-//! running store.
+//! `LockedChain`: a chain's cells whose locks are held, as one value that lends them; used to audit
+//! a running store.
 ghost use Rattle.std.specs.Prelude.{◌≡◌, ◌≤◌, [], IfOk, length, map, vec_capacity, vec_len};
 ghost use Rattle.std.specs.List.{AllByRecursion};
 ghost use Rattle.craq_audit.specs.Audited.{Audits};

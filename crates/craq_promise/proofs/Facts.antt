@@ -64,7 +64,7 @@ pub record Below (a : Account) (counts : ReadMode → Bool) (object : ObjectId) 
   pub is_ask : ask_with a.asks y.node y.ticket ≡ Some ask
   pub below : BelowBy a counts object version ask.ask y.answer
 
--- the same of the replies of the node
+-- a reply of the node is no later than the version
 abbrev pub BelowAt : Account → ℕ → (ReadMode → Bool) → ObjectId → ℕ → Answered → Type 0
 BelowAt a node counts object version y = y.node ≡ node → Below a counts object version y
 
@@ -186,7 +186,7 @@ below_eventual b v n object version node is (asks.Update u) (answers.Update repl
 below_eventual b v n object version node is (asks.Read mode o) (answers.Update reply) l = tt
 below_eventual b v n object version node is (asks.Update u) (answers.Read reported value) l = tt
 
--- the same for a bounded read, and earlier reads of no larger bound
+-- the version is the newest that a bounded read may return at the node
 pub record IsMost (v : MachineState Entry) (node k : ℕ) (key : List ℕ) (version : ℕ) : Type 0 where
   pub most : (c : ℕ) → v.acknowledged node ≤ c → version_after (v.history node) key c ≤ clean_at v node key + k → version_after (v.history node) key c ≤ version
 

@@ -36,7 +36,7 @@ prefix_both {A} {xs} {ys} {zs} p q le =
     in
     let P : List A → Type 0 = λ l. IsPrefix l ys in subst P e (prefix_take (length xs) ys)
 
--- the same elements are taken from a longer history
+-- a prefix and the longer history have equal first elements
 pub take_prefix : {A : Type 0} → (k : ℕ) {xs ys : List A} → IsPrefix xs ys → k ≤ length xs → take k ys ≡ take k xs
 take_prefix {A} k {xs} {ys} p le = ap (take k) (sym p.is) ∙ take-append-le k xs p.rest le
 

@@ -57,7 +57,7 @@ pub stays_all : (C : Chain → Type 0) → Stays C → (ms : List Move) (d : Cha
 stays_all C stays [] d t s = s
 stays_all C stays (m ∷ ms) d t s = stays_all C stays ms (after_move d m) t.1 (stays d m t.0 s)
 
--- the same in chains for which worlds of the protocol stand
+-- the moves of a round keep E, in chains for which worlds of the protocol stand
 abbrev pub Endures : (Chain → Type 0) → Type 0
 Endures E = (m : Move) (d : Chain) → IsTravel m → IsFollowed d → E d → E (after_move d m)
 

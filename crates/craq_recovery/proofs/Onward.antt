@@ -23,7 +23,7 @@ use Rattle.craq_recovery.proofs.Running.{delivery_transition-runs}
 use Rattle.craq_recovery.proofs.Sound.{Sound, sound_move, transition_named}
 use Rattle.craq_recovery.proofs.Lines.{IfTaken, by_test, in_step}
 
--- the same master, the messages that were sent stay, and the same nodes run
+-- the master is unchanged, the messages that were sent stay, and no node begins or ends to run
 pub record Onward (c d : Chain) : Type 0 where
   pub chain : d.chain ≡ c.chain
   pub epoch : d.epoch ≡ c.epoch
@@ -45,7 +45,7 @@ onward_on {b} {c} {d} f g = record {
   running = λ id. g.running id ∙ f.running id;
 }
 
--- the same of a move's result, before it is counted
+-- a move's result, before it is counted, has the chain's master, its messages and its running nodes
 record Leaves (c : Chain) (x : Progress) : Type 0 where
   chain : x.0.chain ≡ c.chain
   epoch : x.0.epoch ≡ c.epoch

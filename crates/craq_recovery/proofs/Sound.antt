@@ -35,7 +35,7 @@ pub record Sound (c : Chain) : Type 0 where
   pub nodes : NodesAreOf c.chain c.nodes
   pub messages : AreOfChain c.chain c.messages
 
--- the same of a move's result, before it is counted
+-- a move's result, before it is counted, is of the same chain
 record Does (c : Chain) (x : Progress) : Type 0 where
   same : x.0.chain ≡ c.chain
   nodes : NodesAreOf c.chain x.0.nodes

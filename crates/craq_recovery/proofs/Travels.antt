@@ -294,7 +294,7 @@ crosses count c from to p C Step F a b stays kept some member at runs sends goes
     round_brings C stays (λ d. NodeIs d to (F b)) (λ m d t f i. kept b m d to t f i) count c (λ d. NodeIs d to (F a)) s0 s f numbers (lasts_on (F a) (kept a) (ticks c) c to (tt, ticks_travel c.nodes c.members) f g)
     (λ n. arrives c1 to C Step F stays kept goes_to (λ a k d number m x sc sd fd od gd at e is. leads a k d number m x sc sd fd (onward_on (ticks_onward c) od) gd at e is) (news c c1) a b (tick_sent c from p Step a b some runs sends member at n))
 
--- ---- the same for one message
+-- ---- the effect of one message
 
 -- the effect of such a message at a node with property G: it then has F
 abbrev pub Makes : Chain → ℕ → (LinkMessage → Type 0) → (Plain → Type 0) → (Plain → Type 0) → Type 0

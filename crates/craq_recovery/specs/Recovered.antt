@@ -26,7 +26,7 @@ ServesAt c id = (p : Plain) × (node_at c.nodes id ≡ Some p) × IsServing c p
 abbrev pub HasRecovered : Chain → Type 0
 HasRecovered c = AllByRecursion (ServesAt c) c.members
 
--- ---- the same as a test
+-- ---- the test of recovery
 
 -- the lists of ids are equal
 abbrev pub are_same : List ℕ → List ℕ → Bool

@@ -43,7 +43,7 @@ pub record Changed (c : Chain) (w : MachineState Entry) (own : List (MachineMove
   pub only : OnlyAt (id_of q) w v
   pub node : NodeFollows v (seen_of q)
 
--- the same for a node that runs
+-- a node that runs made its own moves, and sends nothing yet
 pub record Stage (c : Chain) (w : MachineState Entry) (own : List (MachineMove Entry)) (v : MachineState Entry) (q : Plain) : Type 0 where
   pub was : Plain
   pub at : node_at c.nodes (id_of q) ≡ Some was

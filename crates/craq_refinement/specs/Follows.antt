@@ -47,7 +47,7 @@ pub record PartFollows (messages : List (Message Entry)) (epoch from to : ℕ) (
   pub share : part_of part.position (after_entries opening_state entries) part.number ≡ part
   pub sent : Sent messages (said epoch from to (machine.Copy entries))
 
--- the same in some epoch and between some nodes
+-- a part stands for a copy that was sent in some epoch and between some nodes
 abbrev pub PartWasSent : List (Message Entry) → StatePart → Type 0
 PartWasSent messages part = (epoch : ℕ) × (from : ℕ) × (to : ℕ) × PartFollows messages epoch from to part
 

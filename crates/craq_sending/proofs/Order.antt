@@ -29,7 +29,7 @@ whole [] all is = rw is tt
 whole (s ∷ ss) [] is = is
 whole (s ∷ ss) (m ∷ all) (first, is) = (first, whole ss all is)
 
--- the messages of all outs but these last ones are sent; those of the rest are few, and can be spelled
+-- the messages of all outs but these last ones are sent; those of the rest are few, and can be encoded
 pub record Goes (receipt : Receipt) (all : List Out) (sent : List Sent) (rest : List Out) : Type 0 where
   pub begun : Begins sent (numbered_from 0 receipt (sent_in all)) (numbered_from (length sent) receipt (sent_in rest))
   pub few : length sent + length (sent_in rest) ≤ 2 ^ 32
@@ -96,7 +96,7 @@ next_is : (first : ℕ) (receipt : Receipt) (all : List Out) (sent : List Sent) 
 next_is first receipt all sent index i to out m h below at is =
     subst (λ (o : Out). Brings first receipt all sent index (o ∷ drop (i + 1) all)) is (brings_first first receipt all sent index i out h below at)
 
--- the message of the next out has an index, and can be spelled
+-- the message of the next out has an index, and can be encoded
 brings_index : (first : ℕ) (receipt : Receipt) (all rest : List Out) (sent : List Sent) (index to : ℕ) (m : LinkMessage) → Brings first receipt all sent index (outs.Send to m ∷ rest) → (index < 2 ^ 32) × IsEncodable (named receipt index m)
 unfolding sent_in
 brings_index first receipt all rest sent index to m h = (let few = h.few in omega (arith, few), h.spelled.0)
@@ -146,7 +146,7 @@ next_answered first receipt all sent index i ticket out answer h below at is =
     brings_answered first receipt all (drop (i + 1) all) sent index ticket answer
     (subst (λ (o : Out). Brings first receipt all sent index (o ∷ drop (i + 1) all)) is (brings_first first receipt all sent index i out h below at))
 
--- and a message has an index, and can be spelled under it
+-- and a message has an index, and can be encoded under it
 pub next_index : (first : ℕ) (receipt : Receipt) (all : List Out) (sent : List Sent) (index i to : ℕ) (out : Out) (m : LinkMessage)
     → Brings first receipt all sent index (drop i all) → i < length all → out ≡ get_or all i out → out ≡ outs.Send to m → (index < 2 ^ 32) × IsEncodable (named receipt index m)
 next_index first receipt all sent index i to out m h below at is =

@@ -103,14 +103,14 @@ pub record IsSentAs (s : Sent) (m : LinkMessage) : Type 0 where
   pub kind : s.kind ≡ link_class m.body
   pub bytes : Encodes m s.bytes
 
--- the same of each, in order
+-- the bytes of each message are those of the message, and go to its receiver, in order
 abbrev pub AreSentAs : List Sent → List LinkMessage → Type 0
 AreSentAs [] [] = ⊤
 AreSentAs [] (m ∷ ms) = ⊥
 AreSentAs (s ∷ ss) [] = ⊥
 AreSentAs (s ∷ ss) (m ∷ ms) = IsSentAs s m × AreSentAs ss ms
 
--- the next out of a step of which so many messages are sent: its message, if it is one, can be spelled under the index that comes next
+-- the next output of a step that has sent n messages so far: its message, if it is one, can be encoded under the next index
 abbrev pub CanAdd : Receipt → ℕ → Out → Type 0
 CanAdd receipt n (outs.Send to m) = (n < 2 ^ 32) × IsEncodable (named receipt n m)
 CanAdd receipt n (outs.Answer ticket answer) = ⊤

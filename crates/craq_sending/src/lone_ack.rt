@@ -1,5 +1,5 @@
 //! `LoneAck`: the acknowledgement of a step that does nothing else. It can be encoded after later
-//! steps; called by the batches of `craq_workers`.
+//! steps; called by the batches of `craq_running_chain`.
 ghost use Rattle.std.specs.Prelude.{◌≡◌, ◌∷◌, [], IfOk, IfSome, IsNone};
 ghost use Rattle.craq_runs.specs.Chain.{sent_in};
 ghost use Rattle.craq_model.specs.Encodable.{IsEncodable};

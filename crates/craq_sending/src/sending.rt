@@ -1,5 +1,5 @@
 //! Encodes the messages of a step, and finds the entry of a step that only sends one; called by the
-//! steps of `craq_workers`.
+//! steps of `craq_running_node`.
 ghost use Rattle.std.specs.Prelude.{◌≡◌, ◌≤◌, ◌^◌, length, nat_le, IfOk, IfSome, IsNone, OnOk};
 ghost use Rattle.std.specs.List.{AllByRecursion, list_any};
 ghost use Rattle.craq_runs.specs.Chain.{sent_in};

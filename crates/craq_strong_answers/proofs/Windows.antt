@@ -24,7 +24,7 @@ not_below (k ∷ ks) m r =
 found_first : (w : Window) (n : ℕ) (r : Reply) → is_some (at_number ((n, r) ∷ w) n) ≡ true
 found_first w n r = ap (λ b. is_some (cond b (Some r) (at_number w n))) ((eq_by_cmp_equiv nat_cmp_total).refl n)
 
--- the same if the window was full, and its smallest number was dropped
+-- nor is it below the smallest number that is left if the window was full, and its smallest number was dropped
 not_below_rest : (w : Window) (m : ℕ) (r : Reply) → is_new w m ≡ true → 8 < length (put_number w m r) → smallest (drop 1 (put_number w m r)) ≤ m
 not_below_rest [] m r new = λ long. omega arith
 not_below_rest (k ∷ ks) m r new =

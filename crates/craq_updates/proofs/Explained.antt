@@ -27,7 +27,7 @@ use Rattle.craq_updates.proofs.NewAsks.{asks_stay}
 use Rattle.craq_updates.proofs.Accounts.{KnownNext, next_account, known_after}
 use Rattle.craq_updates.proofs.Runs.{KnownRun, account_by, run_account, known_run}
 
--- what clients see, from the requests of the account
+-- the answers that clients see, with the requests of the account
 abbrev pub seen_by : Account → List Answered → Seen
 seen_by a answers = record { moves = a.chain.moves; asks = a.asks; answers = answers }
 

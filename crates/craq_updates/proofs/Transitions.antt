@@ -194,7 +194,7 @@ reply_accepts p position reply sends =
     (λ e. (refl, refl, refl, refl))
     (λ e. cond_both (is_full p) (Err refusals.PendingFull) (Ok (accepted_transition q sends)) (λ (r : Result Transition Refusal). IfAccepted p.past.base p.last_ticket p.running r) (λ f. tt) (λ f. (refl, refl, refl, refl)))
 
--- the same for a node that may have committed
+-- a node that may have committed accepts an update with this reply
 replies_after : (p : Plain) (position : ℕ) (reply : Reply) (sends : List Out) → IfAccepted p.past.base p.last_ticket p.running (reply_transition (committed_if_last p) position reply sends)
 replies_after p position reply sends =
     cond_both (is_last p) (acknowledging p (length_of p)) p (λ (q : Plain). IfAccepted p.past.base p.last_ticket p.running (reply_transition q position reply sends))

@@ -1,5 +1,5 @@
 //! Encodes and decodes the messages between the nodes of a chain; clients have `craq_frames`.
-//! Runs in the programs: `craq_sending` writes the messages, `craq_workers` reads them.
+//! Runs in the programs: `craq_sending` writes the messages, `craq_running_chain` reads them.
 #![tactic(auto)]
 
 mod alike;

@@ -4,17 +4,16 @@
                             the status 1 if M is not 0
 
 - paths: each file that a page, a script or crates.txt names in backticks exists
-- layers: docs/develop/ARCHITECTURE.md and docs/proof/PROVED.md have the crates of crates.txt, by
-  layer and in order
+- layers: docs/develop/ARCHITECTURE.md has the crates of crates.txt, by layer and in order
 - the kit: README.md names the kit's crates of crates.txt as trusted
 - refusals: docs/use/BYTES.md, docs/use/SCRIPTS.md, the helps and the client have the numbers of
   craq_names/src/refusal.rt; BYTES and the client have the names too
-- commands: docs/use/SCRIPTS.md, docs/use/SERVER.md, README.md, the helps of craq_lab and craq, and
+- commands: docs/use/SCRIPTS.md, docs/use/CRAQ.md, README.md, the helps of craq_lab and craq, and
   that of craq's prompt have the commands of craq_script/src/reading.rt
-- handles: docs/proof/PROVED.md names the crates that start threads or use sockets
 - options: docs/use/SERVER.md has craqd's options of craq_cli/src/server.rt and options.rt
 - lists: docs/develop/CHANGING.md lists each file that names the newest command, message or refusal
 - the drawing: each function that docs/develop/ARCHITECTURE.md draws is in the crate beside it
+- diagrams: those of docs/diagrams are drawn from their data, and name what is in the sources
 - threads: each function and type that docs/develop/THREADS.md names is in the crate beside it, or
   in some crate
 - figures: the table of README.md and its date are those of benchmarks/server/RESULTS.md; the table
@@ -30,6 +29,9 @@
 - definitions: what docs/proof/PROMISE.md quotes is in craq_runs/specs/Valid.antt
 - sizes: the words of a page, the length of its lines and the words of a table's cell, for the pages
   of tools/pages/sizes.py
+- constants: the numbers that pages give for constants of the code, by tools/pages/constants.tsv
+- generated pages: docs/proof/MUTANTS.md and docs/proof/PROVED.md are what tools/pages/generate
+  writes; each edit and each crate has a claim of at most 25 words, each claim its functions
 """
 import os
 import re
@@ -37,6 +39,9 @@ import sys
 
 from tools import repository
 from tools.checks import Checks
+from tools.pages.constants import compare_constants
+from tools.pages.diagrams import diagrams
+from tools.pages.generated import generated
 from tools.pages.sizes import sizes
 from tools.pages.surface import surface
 
@@ -105,24 +110,20 @@ def layers_of_crates():
 
 
 def layers(checks):
-    wanted = layers_of_crates()
-    for page in "docs/develop/ARCHITECTURE.md", "docs/proof/PROVED.md":
-        text = text_of(page)
-        for layer, crates in wanted.items():
-            part = section(text, f"{layer}. ")
-            named = list(dict.fromkeys(re.findall(r"`(craqd?(?:_\w+)?)`",
-                                                  " ".join(row[0] for row in rows(part)))))
-            if layer != "9":
-                checks.same_items(f"{page}, layer {layer},", named, crates if "ARCHITECTURE" in page
-                                  else sorted(crates, key=named.index if set(named) == set(crates) else None))
-            elif "ARCHITECTURE" in page:
-                below = {it for other, some in wanted.items() if other != layer for it in some}
-                checks.same_items(f"{page}, layer {layer},",
-                                  sorted(set(re.findall(r"`(craqd?(?:_\w+)?)`", part)) - below),
-                                  sorted(crates))
+    wanted, page = layers_of_crates(), "docs/develop/ARCHITECTURE.md"
+    for layer, crates in wanted.items():
+        part = section(text_of(page), f"{layer}. ")
+        first = " ".join(row[0] for row in rows(part))
+        named = list(dict.fromkeys(re.findall(r"`(craqd?(?:_\w+)?)`", first)))
+        if layer != "9":
+            checks.same_items(f"{page}, layer {layer},", named, crates)
+        else:
+            below = {it for other, some in wanted.items() if other != layer for it in some}
+            checks.same_items(f"{page}, layer {layer},",
+                              sorted(set(re.findall(r"`(craqd?(?:_\w+)?)`", part)) - below),
+                              sorted(crates))
     told = re.findall(r"\bcraqd?(?:_\w+)?\b",
-                      section(text_of("docs/develop/ARCHITECTURE.md"),
-                              "The layers in one picture").split("Layer 8")[0])
+                      section(text_of(page), "The layers in one picture").split("Layer 8")[0])
     for crate in (it for layer, some in wanted.items() if layer != "9" for it in some):
         checks.that(crate in told, f"the picture of the layers lacks {crate}")
 
@@ -196,9 +197,9 @@ def commands(checks):
     asked = {word for row in rows(section(scripts, "How it is written")) if "CLIENT" in row[0]
              or "same words" in row[0] or "`dec" in row[0]
              for word in re.findall(r"`([a-z]+)\b", row[0])} | {"read", "status"}
-    server = {word for row in rows(section(text_of("docs/use/SERVER.md"), "The command"))
+    server = {word for row in rows(section(text_of("docs/use/CRAQ.md"), "The command"))
               for word in re.findall(r"`([a-z]+)\b", row[0])}
-    checks.that(asked <= server, f"docs/use/SERVER.md lacks the commands {sorted(asked - server)}")
+    checks.that(asked <= server, f"docs/use/CRAQ.md lacks the commands {sorted(asked - server)}")
     prompt = re.search(r'const HELP: &str = "(.*?)";', text_of("crates/craq/src/shell.rt"), re.S)
     for file, text in (("README.md", text_of("README.md")),
                        ("crates/craq_cli/src/client.rt", text_of("crates/craq_cli/src/client.rt")),
@@ -208,23 +209,6 @@ def commands(checks):
     missing = [it for it in sorted(table)
                if not re.search(rf"\b{it}\b", text_of("crates/craq_lab/src/command_line.rt"))]
     checks.that(not missing, f"the help of craq_lab lacks the lines {missing}")
-
-
-# Handles.
-
-def handles(checks, names):
-    """Compares the crates that start threads, and those that use sockets, tests aside, with those
-    that PROVED names."""
-    text = text_of("docs/proof/PROVED.md").replace("\n", " ")
-    tests = set(layers_of_crates()["9"])
-    for what, word in ("Threads are started by",
-                       r"\bThreads\b.*\+|: Threads\b"), ("sockets are used by",
-                                                         r"\bNet<|\bTcpStream\b|\bimpl Net\b"):
-        told = text.partition(what)[2].partition(";" if what[0] == "T" else ".")[0]
-        sources = [name for name in names if re.match(r"crates/\w+/src/.*\.rt$", name)]
-        wanted = {name.split("/")[1] for name in sources if re.search(word, text_of(name))} - tests
-        checks.same_items(f"docs/proof/PROVED.md, '{what}',", sorted(set(re.findall(r"`(craq\w*)`", told))),
-                          sorted(wanted))
 
 
 # Options.
@@ -503,10 +487,10 @@ def main():
     kit(checks)
     refusals(checks)
     commands(checks)
-    handles(checks, names)
     options(checks)
     lists(checks, names)
     drawing(checks)
+    diagrams(checks)
     limits(checks)
     threads(checks, names)
     figures(checks)
@@ -516,6 +500,8 @@ def main():
     embedded(checks)
     quoted(checks)
     sizes(checks)
+    generated(checks)
+    compare_constants(checks)
     print(f"pages: {checks.passed + checks.failed} checks, {checks.failed} faults")
     return 1 if checks.failed else 0
 

@@ -10,7 +10,7 @@ Where pages are named, as README.md, only theirs are pasted.
 What is pasted stands in blocks that begin with ```console: a line '$ COMMAND', and below it what it
 prints on standard output. A line '..' there stands for any lines, and the number after 'pass' is
 free. A server runs until its page ends, or until it ends by itself where it was given
---connections. The ports 7000 and 7001 stand for free ones, and 7000 is where the clients ask by
+--connections. The ports 7000 to 7002 stand for free ones, and 7000 is where the clients ask by
 default. A newline that a value lacks at its end is put there, as on a terminal. Without programs
 ./serve and ./play build theirs without proofs, as they do on a fresh clone.
 
@@ -39,7 +39,7 @@ PATIENCE, ENDING = 1_800, 30
 
 
 def blocks(text):
-    """The commands of a page with what each prints, in order."""
+    """Returns the commands of a page with what each prints, in order."""
     found = []
     for block in re.findall(r"^```console\n(.*?)^```$", text, re.M | re.S):
         for line in block.splitlines():
@@ -62,7 +62,7 @@ class Page:
 
     def __init__(self, name, folder, places, programs):
         self.name, self.folder, self.programs = name, folder, programs
-        self.ports = {port: str(free_port()) for port in ("7000", "7001")}
+        self.ports = {port: str(free_port()) for port in ("7000", "7001", "7002")}
         self.environment = {**os.environ, "PATH": places + os.pathsep + os.environ["PATH"],
                             "PYTHONDONTWRITEBYTECODE": "1",
                             "CRAQ_CONNECT": f"127.0.0.1:{self.ports['7000']}",
@@ -139,7 +139,7 @@ class Page:
 
 
 def clone(folder):
-    """A clean clone of what was committed, and the names of its pages."""
+    """Makes a clean clone of what was committed, and returns the names of its pages."""
     subprocess.run(["git", "clone", "--quiet", repository.TOP, folder], check=True)
     listed = subprocess.run(["git", "ls-files", "README.md", "docs"], cwd=folder, check=True,
                             capture_output=True, text=True).stdout

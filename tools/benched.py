@@ -8,7 +8,7 @@ HERE = repository.path("benchmarks")
 
 
 def programs():
-    """The programs by name, as they stand."""
+    """Returns the programs by name, as they stand."""
     found = [f"{folder}/{file.removesuffix('_main.txt')}" for folder in os.listdir(HERE)
              if os.path.isdir(os.path.join(HERE, folder))
              for file in os.listdir(os.path.join(HERE, folder)) if file.endswith("_main.txt")]
@@ -21,8 +21,8 @@ def text_of(program):
 
 
 def stands_on(text):
-    """The crates that a program names, and those below them, lowest first; then those of the kit
-    that it names."""
+    """Returns the crates that a program names, and those below them, lowest first; then those of
+    the kit that it names."""
     known = repository.crates()
     used = set(re.findall(r"^\s*use ([a-z]\w*)::", text, re.M))
     named = {it for it in re.findall(r"\b(\w+)(?:::|\.)", text) if it in known} | used - {"std", "crate"}

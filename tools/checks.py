@@ -5,7 +5,7 @@ import traceback
 
 
 class Checks:
-    """How many checks passed and failed. A failed one is told on standard error, after the title;
+    """Counts the checks that passed and failed. Prints a failed one on standard error, after the title;
     with `progress`, on a terminal, also which part runs."""
 
     def __init__(self, title, progress=False):
@@ -43,7 +43,7 @@ class Checks:
             return None
 
     def told(self, what, run, *given):
-        """Runs a part of the checks, and prints a line that tells what came of it."""
+        """Runs a part of the checks, and prints a line with its counts and its seconds."""
         passed, failed, began = self.passed, self.failed, time.time()
         self.part(what, run, *given)
         print(f"{self.title}: {what}: {self.passed - passed} passed, {self.failed - failed} failed, "

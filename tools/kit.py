@@ -1,4 +1,4 @@
-"""What Rattle's command rt can do, which differs from kit to kit: its help tells."""
+"""Tells the abilities of Rattle's command rt, which differ from kit to kit, by its help."""
 import re
 import subprocess
 
@@ -10,10 +10,10 @@ def help_text():
 
 
 def takes_names():
-    """Whether `rt ci NAME..` is there, which proves and tries some crates alone."""
+    """Returns whether the kit has `rt ci NAME..`, which proves and tries some crates alone."""
     return bool(re.search(r"rt ci\b.*NAME", help_text()))
 
 
 def keeps():
-    """Whether `rt ci` keeps what passed, so that it proves all only with `--anew`."""
+    """Returns whether `rt ci` keeps what passed, so that it proves all only with `--anew`."""
     return "--anew" in help_text()

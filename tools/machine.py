@@ -1,4 +1,4 @@
-"""What the machine has."""
+"""Memory and processors of this machine."""
 import os
 
 # The bytes that a check takes at most, as a rule.
@@ -6,11 +6,11 @@ CHECK = 4_000_000_000
 
 
 def free():
-    """The bytes of memory that are free."""
+    """Returns the bytes of memory that are free."""
     with open("/proc/meminfo", encoding="ascii") as it:
         return next(1024 * int(line.split()[1]) for line in it if line.startswith("MemAvailable:"))
 
 
 def lanes(each=CHECK):
-    """How many checks, or other runs that take so many bytes each, may run side by side."""
+    """Returns how many checks, or other runs that take `each` bytes, may run side by side."""
     return max(1, min(len(os.sched_getaffinity(0)), free() // each))

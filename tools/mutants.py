@@ -1,59 +1,80 @@
-"""The table of docs/proof/MUTANTS.md that says which edits stand in wrong/, and when each was
-last refused."""
-import re
+"""The mutants of the crates: their edit files, and the table tools/pages/mutants.tsv with what each
+does wrong and when it was last refused. docs/proof/MUTANTS.md is generated from both."""
+from typing import NamedTuple
 
 from tools import repository
 
-PAGE = "docs/proof/MUTANTS.md"
-HEAD = "| Crate | Last refused | Edits in `wrong/` |\n|---|---|---|\n"
-ROW = re.compile(r"\| `(\w+)` \| ([^|]+) \| ([^|]+) \|\n")
-NEVER = "never"
+TABLE = "tools/pages/mutants.tsv"
+HEAD = ("edit", "what it does wrong", "last refused")
+# The word of the table for an edit of must-fail/, which each run of CI tries, and for one of wrong/
+# that was never tried or not refused.
+CI, NEVER = "CI", "never"
+
+
+class Mutant(NamedTuple):
+    """An edit of a crate, what it does wrong, and the date at which it was last refused."""
+
+    crate: str
+    folder: str
+    edit: str
+    claim: str
+    refused: str
+
+
+def edits():
+    """Returns the edits that there are, as crate, folder and name, in the order of crates.txt."""
+    return [(crate, folder, edit) for crate in repository.crates() for folder in ("must-fail", "wrong")
+            for edit in repository.edits_in(crate, folder)]
 
 
 def table():
-    """What stands before the table, the date of each edit by crate and name, and what stands after it."""
-    before, head, rest = repository.text_of(PAGE).partition(HEAD)
-    if not head:
-        raise ValueError(f"{PAGE} has no table with the head {HEAD!r}")
-    dates, at = {}, 0
-    while found := ROW.match(rest, at):
-        dates.update({(found[1], edit): found[2] for edit in re.findall(r"`(\w+)`", found[3])})
-        at = found.end()
-    return before, dates, rest[at:]
+    """Returns the claim and the date of each row, by crate and edit."""
+    rows = [it.split("\t") for it in repository.text_of(TABLE).splitlines()[1:]]
+    return {tuple(name.split("/")): (claim, refused) for name, claim, refused in rows}
 
 
-def wanted():
-    """The edits that stand in wrong/, as crate and name."""
-    return [(name, edit) for name in repository.crates() for edit in repository.edits_in(name, "wrong")]
+def moved(known, there):
+    """Returns the rows of edits that are not there, by the edit's name, where only one has it: the
+    row of an edit that moved to another crate."""
+    found = {}
+    for (crate, edit), row in known.items():
+        if (crate, edit) not in there:
+            found.setdefault(edit, []).append(row)
+    return {edit: rows[0] for edit, rows in found.items() if len(rows) == 1}
+
+
+def mutants():
+    """Returns each edit with its row of the table. A claim is empty where the table has none."""
+    known, found = table(), edits()
+    lost = moved(known, {(crate, edit) for crate, _, edit in found})
+    made = []
+    for crate, folder, edit in found:
+        claim, refused = known.get((crate, edit)) or lost.get(edit, ("", NEVER))
+        if folder == "must-fail":
+            refused = CI
+        elif refused == CI:
+            refused = NEVER
+        made.append(Mutant(crate, folder, edit, claim, refused))
+    return made
+
+
+def text_of(some):
+    """Returns the text of the table with these mutants."""
+    rows = [(f"{it.crate}/{it.edit}", it.claim, it.refused) for it in some]
+    return "".join("\t".join(row) + "\n" for row in (HEAD, *rows))
 
 
 def note(refused, date):
-    """Writes the table anew: these edits, given as crate and name, were refused on this date. What
-    the table lacked never was."""
-    before, dates, after = table()
-    rows = {}
-    for crate, edit in wanted():
-        last = date if (crate, edit) in refused else dates.get((crate, edit), NEVER)
-        rows.setdefault((crate, last), []).append(f"`{edit}`")
-    text = "".join(f"| `{crate}` | {last} | {', '.join(edits)} |\n" for (crate, last), edits in rows.items())
-    with open(repository.path(PAGE), "w", encoding="utf-8") as it:
-        it.write(before + HEAD + text + after)
-
-
-def unlike():
-    """The edits that the table has and wrong/ has not, or the other way round."""
-    return sorted(f"{crate}: {edit}" for crate, edit in {*table()[1]} ^ {*wanted()})
+    """Writes the date at these edits, given as crate and name, into the table."""
+    rows = [it._replace(refused=date) if (it.crate, it.edit) in refused and it.folder == "wrong" else it
+            for it in mutants()]
+    with open(repository.path(TABLE), "w", encoding="utf-8") as it:
+        it.write(text_of(rows))
 
 
 def strange():
-    """The edits that the table of wrong stores names and that no crate of its row has."""
-    found = []
-    for cell in re.findall(r"^\| [^|]+ \| (`craq_\w+`[^|]*:[^|]*) \|$", repository.text_of(PAGE), re.M):
-        for part in cell.split(";"):
-            names = re.findall(r"`(\w+)`", part)
-            crates = [it for it in names if it in repository.crates()]
-            edits = [it for it in names if it not in crates]
-            there = {it: {*repository.edits_in(it, "must-fail"), *repository.edits_in(it, "wrong")}
-                     for it in crates}
-            found += [f"{crate}: {edit}" for crate in crates for edit in edits if edit not in there[crate]]
-    return found
+    """Returns the rows of the table whose edits are not there, and did not move."""
+    found = edits()
+    there = {(crate, edit) for crate, _, edit in found}
+    names = {edit for crate, _, edit in found if (crate, edit) not in table()}
+    return ["/".join(it) for it in table() if it not in there and it[1] not in names]

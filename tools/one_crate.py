@@ -18,7 +18,7 @@ def ran(words, where):
 
 
 def words_of(name):
-    """The arguments of a program, a line each in its file args."""
+    """Returns the arguments of a program, a line each in its file args."""
     file = repository.path("crates", name, "args")
     return repository.text_of(file).splitlines() if os.path.isfile(file) else []
 
@@ -34,8 +34,8 @@ def built(name):
 
 
 def prints_its_file(name):
-    """Whether the program prints what its file stdout has, in a folder with its data, and ends as
-    it has to."""
+    """Returns whether the program prints the text of its file stdout, in a folder with its data, and
+    ends with the right status."""
     program = built(name)
     if not program:
         return False
@@ -50,7 +50,7 @@ def prints_its_file(name):
 
 
 def steps(name):
-    """What there is to be tested of a crate: what it is, and a call that tells whether it is well."""
+    """Returns the tests of a crate: the name of each, and a call that returns whether it passes."""
     top, folder = repository.TOP, repository.path("crates", name)
     found = [("proof", lambda: ran(["rt", "check"], folder))]
     if repository.is_program(name):

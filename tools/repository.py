@@ -1,4 +1,4 @@
-"""What stands in the repository: its crates, and the edits that make their bodies wrong."""
+"""Lists the parts of the repository: its crates, and the edits that make their bodies wrong."""
 import os
 import re
 import subprocess
@@ -31,7 +31,8 @@ def files():
 
 
 def crates():
-    """The name of each crate with the names that it stands on, lowest first as crates.txt has them."""
+    """Returns the name of each crate with the names that it stands on, lowest first as crates.txt
+    has them."""
     found = {}
     for line in text_of("crates.txt").splitlines():
         name, colon, below = line.partition("#")[0].partition(":")
@@ -41,7 +42,7 @@ def crates():
 
 
 def below(names):
-    """The crates of the repository that these stand on, lowest first."""
+    """Returns the crates of the repository that these stand on, lowest first."""
     known, wanted = crates(), set()
     left = [*names]
     while left:
@@ -52,7 +53,7 @@ def below(names):
 
 
 def lowest_first(known):
-    """The names in an order in which each stands after those that it stands on."""
+    """Returns the names in an order in which each stands after those that it stands on."""
     found = []
 
     def add(name):
@@ -72,7 +73,7 @@ def is_program(name):
 
 
 def file_of(name, file, otherwise=b""):
-    """The bytes of a file beside src/: on what a program is run, or what it has to print."""
+    """Returns the bytes of a file beside src/: the input of a program, or what it has to print."""
     try:
         with open(path("crates", name, file), "rb") as it:
             return it.read()
@@ -81,7 +82,8 @@ def file_of(name, file, otherwise=b""):
 
 
 def edits_in(name, folder):
-    """The names of the edits of a crate that stand in this folder of it, without their ending."""
+    """Returns the names of the edits of a crate that stand in this folder of it, without their
+    ending."""
     try:
         return sorted(it.removesuffix(".edit") for it in os.listdir(path("crates", name, folder))
                       if EDIT.fullmatch(it))

@@ -5,8 +5,8 @@
     tools/unproved.py --one FOLDER OUT    OUT alone, optimized, without checks of addresses
 
 `rt try` builds without proofs, but does not optimize, and keeps no program. Here it runs out of a
-copy of the kit, which is links but for what stands in the place of the compiler and of the linker
-of its toolchain: this script, which calls these. Of the program's own code they make two programs,
+copy of the kit. The copy is links, except that this script replaces the compiler and the linker of
+its toolchain, and calls them. Of the program's own code they make two programs,
 both of which are kept; or one without checks of addresses, for `./test --quick`. What is built has
 the tests that `rt try` puts in, as of an index out of bounds.
 """
@@ -23,10 +23,10 @@ CHECKS, PLAIN = "-fsanitize=address", "-O0"
 # The archive of the checks stands between these; the program's own code is the first file, and the
 # program has this name.
 FROM, TO, CODE, PROGRAM = "--whole-archive", "--no-whole-archive", "input-0", "program"
-# How well each of the two is optimized: the one with checks somewhat.
+# Optimization of each of the two: the one with checks is optimized somewhat.
 FAST, CHECKED = "-O2", "-O1"
-# What stands for the compiler and the linker where both programs are made, and where one without
-# checks is, optimized or as it is.
+# The commands of this script that replace the compiler and the linker: where both programs are made,
+# and where one without checks is, optimized or as it is.
 TOOLS = {"clang": "compiled", "ld.lld": "linked"}
 ONE = {True: {"clang": "fast_compiled", "ld.lld": "alone_linked"},
        False: {"clang": "soon_compiled", "ld.lld": "alone_linked"}}
@@ -39,7 +39,7 @@ class Unbuilt(Exception):
 
 
 def with_links(there, here, but=()):
-    """A folder of links to what another holds, but for these."""
+    """Makes a folder of links to what another holds, except these."""
     os.makedirs(there)
     for name in os.listdir(here):
         if name not in but:
@@ -47,8 +47,8 @@ def with_links(there, here, but=()):
 
 
 def kit_of(room, out, tools):
-    """A copy of the kit in which this script stands for the compiler and the linker, and makes
-    programs; gives its rt."""
+    """Makes a copy of the kit in which this script replaces the compiler and the linker, and makes
+    programs. Returns its rt."""
     found = shutil.which("rt")
     if not found:
         raise Unbuilt("there is no rt on the path")
@@ -120,20 +120,20 @@ def alone_linked(out, tool, words):
 
 
 def built_alone(folder, out, is_fast=False):
-    """The program of the crate in that folder without checks of addresses, optimized or not;
-    `Unbuilt` where that fails."""
+    """Returns the program of the crate in that folder without checks of addresses, optimized or
+    not. Raises `Unbuilt` if that fails."""
     made_by(ONE[is_fast], folder, out, (out,))
     return out
 
 
 def built(folder, out):
-    """The program of the crate in that folder, optimized, and with checks of addresses as
-    OUT.checked; `Unbuilt` where that fails."""
+    """Makes the program of the crate in that folder, optimized, and with checks of addresses as
+    OUT.checked. Raises `Unbuilt` if that fails."""
     return made_by(TOOLS, folder, out, (out, f"{out}.checked"))
 
 
 def made_by(tools, folder, out, made):
-    """The programs that these tools make of the crate in that folder."""
+    """Returns the programs that these tools make of the crate in that folder."""
     for it in made:
         if os.path.exists(it):
             os.unlink(it)

@@ -107,12 +107,12 @@ def cells(line):
 
 
 def bytes_of(cell):
-    """The bytes of a cell of the page, as hexadecimal digits."""
+    """Returns the bytes of a cell of the page, given as hexadecimal digits."""
     return re.fullmatch(r"`([0-9a-f ]+)`", cell)[1].replace(" ", "")
 
 
 def worked(text):
-    """The worked bytes of the page, by what each is; a reply without a name follows its request."""
+    """Returns the worked bytes of the page by name; a reply without a name follows its request."""
     part = text.partition("\n## Worked bytes")[2].partition("\n## What nodes send")[0]
     found, last = {}, ""
     for what, told in (cells(it) for it in part.splitlines() if it.startswith("|")
@@ -131,7 +131,7 @@ def worked(text):
 
 
 def refusals(text):
-    """The numbers of the refusals that a server sends, by the page's table."""
+    """Returns the numbers of the refusals that a server sends, by the page's table."""
     part = text.partition("\n### Refusals")[2].partition("\n## ")[0]
     return [int(it[0]) for it in map(cells, part.splitlines()) if it[0].isdigit()]
 
@@ -141,7 +141,8 @@ def framed(payload):
 
 
 def case(name, call, request, reply, result):
-    """A case of client 1, whose pass is the one in the request; where a reply has one it is 9."""
+    """Returns a case of client 1, whose pass is the one in the request; where a reply has one it is
+    9."""
     shown = 9 if call == CALL_READ or call.startswith("read") else 0
     after = 9 if result.split()[0] not in ("refused", "status", "badreply", "lost") else shown
     return {"name": name, "pass": shown, "call": call, "request": request, "reply": reply, "result": result,
@@ -183,7 +184,7 @@ def made_of(text):
 
 
 def text_of_cases():
-    """The text of clients/cases.json: a case a line."""
+    """Returns the text of clients/cases.json: a case a line."""
     with open(PAGE, encoding="utf-8") as it:
         cases = made_of(it.read())
     lines = [",\n".join("  " + json.dumps(it) for it in table)

@@ -138,8 +138,8 @@ def packed(checks, folder):
 
 
 def headers(checks, folder):
-    """The header in C has fewer than 400 lines, and compiles without a warning. Gives the clients
-    that are tested."""
+    """Checks that the header in C has fewer than 400 lines, and compiles without a warning. Returns
+    the tested clients in words."""
     with open(repository.path("clients", "c", "jilsdau.h"), encoding="utf-8") as it:
         lines = it.read().count("\n")
     checks.that(lines < MOST_LINES, f"the header has {lines} lines")

@@ -40,7 +40,8 @@ class Unread(example.Unread):
         return self.bytes(self.within(2, 0, MOST_VALUE))
 
     def listed(self, rest):
-        """The objects of a list of a transaction, `rest` reading what follows each of them."""
+        """Returns the objects of a list of a transaction; `rest` reads what follows each of
+        them."""
         found = []
         for _ in range(self.within(1, 0, MOST_ITEMS)):
             found.append(self.object())
@@ -84,8 +85,8 @@ class Unread(example.Unread):
 
 
 def kinds_of(payload):
-    """The version of a payload, whether it is a Many, and the kinds of what it asks; None where it
-    is no request."""
+    """Returns the version of a payload, whether it is a Many, and the kinds of its asks, or None if
+    it is no request."""
     unread = Unread(payload)
     try:
         version, kind = unread.within(1, 1, 2), unread.number(1)
@@ -99,7 +100,7 @@ def kinds_of(payload):
 
 
 def may_answer(reply, asked):
-    """Whether a payload is a reply to such a request: of its version, whole, and for each ask a
+    """Returns whether a payload is a reply to such a request: of its version, whole, and for each ask a
     reply of its kind or a refusal."""
     version, is_many, asks = asked
     unread = example.Unread(reply)
@@ -122,8 +123,8 @@ def may_answer(reply, asked):
 
 
 def frames_in(sent):
-    """The payloads of the whole frames at the front of these bytes, up to a length above the limit,
-    and whether one comes."""
+    """Returns the payloads of the whole frames at the front of these bytes, up to a length above
+    the limit, and whether there is one."""
     found, at = [], 0
     while len(sent) - at >= 4:
         size = int.from_bytes(sent[at:at + 4], "big")
@@ -137,7 +138,7 @@ def frames_in(sent):
 
 
 def are_replies(said, sent):
-    """Whether these bytes are what a server may say to those and the end of them."""
+    """Returns whether a server may send these bytes for the bytes that were sent and their end."""
     payloads, too_long = frames_in(sent)
     replies, more = frames_in(said)
     if more or sum(4 + len(it) for it in replies) != len(said) or len(replies) != len(payloads) + too_long:
@@ -148,14 +149,14 @@ def are_replies(said, sent):
 
 
 def is_reply(reply, payload):
-    """Whether that payload is a reply to this one."""
+    """Returns whether `reply` is a payload that a server may send for this request."""
     asked = kinds_of(payload)
     return reply == NO_REQUEST if asked is None else may_answer(reply, asked)
 
 
 def worked_bytes():
-    """All bytes that the page has in its worked tables, in order: whole frames, commands, modes and
-    replies."""
+    """Returns all bytes that the page has in its worked tables, in order: whole frames, commands,
+    modes and replies."""
     with open(PAGE, encoding="utf-8") as it:
         part = it.read().partition("\n## Worked bytes")[2].partition("\n## What nodes send")[0]
     return [bytes.fromhex(it) for it in re.findall(r"`((?:[0-9a-f]{2} ?)+)`", part)]
@@ -172,12 +173,12 @@ def is_command(it):
 
 
 def updates(commands):
-    """Each command as an update, with a number each."""
+    """Returns each command as an update, with a number each."""
     return [example.update_request(NODE, 0, CLIENT, at + 1, it) for at, it in enumerate(commands)]
 
 
 def requests():
-    """A payload for each request of the page, by what it is: each command and mode, Status and
+    """Returns a payload for each request of the page, by name: each command and mode, Status and
     Many, in both versions."""
     found = worked_bytes()
     commands = [it for it in found if is_command(it)]

@@ -19,16 +19,16 @@ from tools.hostile import asked
 from tools.hostile.asked import example
 from tools.sockets import framed, read_to_end, read_up_to
 
-# How many seconds another client waits for its answers, and threads, files and memory for being
-# back; and how many at most.
+# Seconds that another client waits for its replies; and seconds within which threads, files and memory
+# have to be back.
 AT_ONCE, PATIENCE = 1.0, 10.0
-# One of so many waits may be longer.
+# One of this many waits may be longer.
 OFTEN = 1_000
-# How many MiB the server may have grown by after all.
+# MiB by which the server may have grown in the end.
 GROWTH = 24
 GARBAGE = (b"\xff" * 64, b"\0" * 64, random.Random(3).randbytes(64))
 QUIET = 0.1
-# After so many frames a connection ends, and another is made.
+# A connection ends after this many frames, and another is made.
 FRAMES = 500
 
 
@@ -39,7 +39,7 @@ class Other:
         self.client, self.count = example.Client(server.address, 2, tries=1), 0
 
     def is_answered(self):
-        """Whether it is answered rightly."""
+        """Returns whether both of its calls get the right reply."""
         self.count += 1
         wrote, read = self.client.inc("other", node=1), self.client.read("other", node=3)
         count = self.count
@@ -58,13 +58,13 @@ class Attacked:
         self.before, self.memory = self.has(), self.server.memory()
 
     def has(self):
-        """How many threads and open files it has."""
+        """Returns the numbers of its threads and of its open files."""
         with open(f"/proc/{self.server.process.pid}/status", encoding="ascii", errors="replace") as it:
             threads = int(re.search(r"Threads:\s+(\d+)", it.read())[1])
         return threads, len(os.listdir(f"/proc/{self.server.process.pid}/fd"))
 
     def connect(self):
-        """A connection from one of some addresses, since each has only so many ports and a port
+        """Returns a connection from one of some addresses, since an address has few ports and a port
         rests for a minute."""
         self.attacks += 1
         made = socket.create_connection(("127.0.0.1", self.server.port), running.PATIENCE,
@@ -73,7 +73,7 @@ class Attacked:
         return made
 
     def goes_on(self, what):
-        """It answers the other client."""
+        """Checks that it answers the other client."""
         began = time.monotonic()
         self.checks.that(self.other.is_answered(), f"after {what} another client is answered")
         self.waits.append(time.monotonic() - began)
@@ -86,18 +86,18 @@ class Attacked:
         self.waits.append(time.monotonic() - began)
 
     def comes_back(self, what):
-        """What it has is what it had."""
+        """Checks that the server has as many threads and files again as before."""
         self.waited(lambda: self.has() == self.before)
         self.checks.same(f"threads and files after {what}", self.has(), self.before)
 
     def is_small(self, what):
-        """It has hardly more memory."""
+        """Checks that it has hardly more memory than before."""
         self.waited(lambda: self.server.memory() <= self.memory + GROWTH)
         grown = self.server.memory() - self.memory
         self.checks.that(grown <= GROWTH, f"after {what} it has {grown:.0f} MiB more than before")
 
     def said_to(self, sent):
-        """All that it says to these bytes and the end of them."""
+        """Returns all that it sends for these bytes and their end."""
         with self.connect() as made:
             try:
                 made.sendall(sent)
@@ -107,14 +107,14 @@ class Attacked:
             return read_to_end(made)
 
     def hears(self, what, sent):
-        """It says to these bytes what it may, and is as before."""
+        """Checks that it sends for these bytes what it may, and is as before."""
         said = self.said_to(sent)
         self.checks.that(asked.are_replies(said, sent), f"{what}, {sent[:80].hex()}: found {said[:80].hex()}")
         self.goes_on(what)
         self.comes_back(what)
 
     def ends(self):
-        """It still runs, and nobody waited long; then it is ended."""
+        """Checks that it still runs, and that no client waited long; then ends it."""
         self.checks.that(self.server.runs(), "the server runs to the end")
         late = sum(it > AT_ONCE for it in self.waits)
         self.checks.that(late * OFTEN <= len(self.waits) and max(self.waits) <= PATIENCE,
@@ -125,8 +125,8 @@ class Attacked:
 
 
 def cut(attacked, requests):
-    """Every part of each request that begins where it begins, and then the end, silence, or
-    garbage; gives how many."""
+    """Sends every part of each request that begins where the request begins, and then the end,
+    silence, or garbage. Returns how many were sent."""
     made = 0
     for payload in requests:
         frame, what = framed(payload), f"a part of {payload[:2].hex()} .. {payload[-12:].hex()}"
@@ -148,7 +148,7 @@ def cut(attacked, requests):
 
 
 def is_silent(attacked, what, made):
-    """Nothing was said to this connection; it is closed."""
+    """Checks that the server sent nothing to this connection, and closes it."""
     made.setblocking(False)
     try:
         said = made.recv(1)
@@ -165,7 +165,8 @@ class Kept:
         self.attacked, self.name, self.made, self.sent = attacked, name, attacked.connect(), 0
 
     def asks(self, what, payload):
-        """The reply to this payload is one that it may get, and the other client is answered."""
+        """Checks that the reply to this payload is one that it may get, and that the other client
+        is answered."""
         try:
             self.made.sendall(framed(payload))
             said = taken(self.made, int.from_bytes(taken(self.made, 4), "big"))
@@ -196,8 +197,8 @@ def taken(made, size):
 
 
 def one_of_each(requests):
-    """One request of each kind: of all with the same version, kind and command the first, but none
-    that another version has too."""
+    """Returns one request of each kind: the first of those with one version, kind and command, and
+    none that another version has too."""
     found = {}
     for payload in requests:
         found.setdefault((payload[1], payload[30:31] if payload[1] == asked.UPDATE else payload[14:15]),
@@ -206,15 +207,16 @@ def one_of_each(requests):
 
 
 def changes(frame, places, values):
-    """The frame with the byte at each of these places set to each of these values, after what that is."""
+    """Yields the frame with the byte at each of these places set to each of these values, after its
+    name."""
     for at in places:
         for value in values:
             yield f"byte {at} set to {value}", frame[:at] + bytes([value]) + frame[at + 1:]
 
 
 def changed(attacked, requests, values):
-    """Each byte of each request set to each value: those of the length in connections of their own;
-    gives how many."""
+    """Sends each request with each byte set to each value, those of the length in connections of
+    their own. Returns how many were sent."""
     made = 0
     for payload in requests:
         frame, of = framed(payload), f"of {payload[:2].hex()} .. {payload[-12:].hex()}"
@@ -229,8 +231,8 @@ def changed(attacked, requests, values):
 
 
 def drawn(draw, requests):
-    """A payload that is drawn: random bytes, or a request that was changed in a few places, cut, or
-    made longer."""
+    """Draws a payload: random bytes, or a request that was changed in a few places, cut, or made
+    longer."""
     pick = draw.randrange(4)
     if pick == 0:
         return draw.randbytes(draw.randrange(300))
@@ -246,7 +248,7 @@ def drawn(draw, requests):
 
 
 def random_frames(attacked, requests, count):
-    """So many frames with payloads that are drawn; gives how many."""
+    """Sends `count` frames with payloads that are drawn, and returns the number that was sent."""
     draw, kept = random.Random(4), Kept(attacked, "random frames")
     for at in range(count):
         kept.asks(f"random frame {at}", drawn(draw, requests))
@@ -255,7 +257,7 @@ def random_frames(attacked, requests, count):
 
 
 def tried(checks, craqd):
-    """All of them in each way of serving, and what was tried, in words."""
+    """Runs all attacks in each way of serving, and returns what was tried, in words."""
     requests = asked.requests()
     checks.that(len({it[:2] for it in requests}) == 7,
                 "docs/use/BYTES.md has requests of each version and kind")
@@ -263,7 +265,7 @@ def tried(checks, craqd):
 
 
 def served(checks, craqd, requests):
-    """All of them to one server, and what was tried, in words."""
+    """Runs all attacks on one server, and returns what was tried, in words."""
     attacked = Attacked(checks, craqd)
     try:
         cuts = cut(attacked, requests)

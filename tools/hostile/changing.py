@@ -24,7 +24,7 @@ NAME = "craq_served"
 OWN = ("craq_names", "craq_compact_history", "craq_seat", "craq_audit", "craq_place", "craq_workers",
        "craq_server")
 LEFT_OUT = "left out: there is no rt to build its program"
-# How many seconds a call may take, however often it is refused and asked again.
+# Seconds that a call may take, however often it is refused and asked again.
 PATIENCE = 10
 # After these refusals the same is asked again: also where a node that joined is not ready.
 NOT_READY = 10
@@ -36,15 +36,15 @@ FORMS = {"in-place": "two threads a node, in place", "queued": "two threads a no
 
 @functools.cache
 def built():
-    """The program, which is built once for both parts, and the folder that it stands in, which goes
-    with it."""
+    """Builds the program once for both parts. Returns it with its folder, which is removed at the
+    end."""
     room = tempfile.TemporaryDirectory(prefix="served-")
     return unproved.built_alone(stores.made(room.name, NAME, TEXTS, OWN), os.path.join(room.name, NAME),
                                 is_fast=True), room
 
 
 def used(checks, run):
-    """What a call tells of the program in each way of serving; or why there is none."""
+    """Returns the result of a call with the program in each way of serving; or why there is no program."""
     if not shutil.which("rt"):
         return LEFT_OUT
     try:
@@ -56,8 +56,8 @@ def used(checks, run):
 
 
 def in_each_form(checks, run):
-    """What a call tells that is made once with a store of each form, in words. A check that fails
-    tells the form."""
+    """Calls `run` once with a store of each form, and returns its results in words. A check that fails
+    names the form."""
     title, told = checks.title, []
     for form, words in FORMS.items():
         checks.title = f"{title}, {words}"
@@ -69,19 +69,19 @@ def in_each_form(checks, run):
 
 
 def threads_asked():
-    """By how many threads running.OPTIONS ask that all connections are served; 0 where each has one
-    of its own."""
+    """Returns the number of threads that serve all connections by running.OPTIONS; 0 if each has
+    one of its own."""
     return dict(zip(running.OPTIONS, running.OPTIONS[1:])).get("--threads", "0")
 
 
 def usual_form():
-    """The form of a store that craqd would serve as running.OPTIONS say."""
+    """Returns the form of the store that craqd would serve by running.OPTIONS."""
     return "in-place" if threads_asked() == "0" else "carried"
 
 
 class Changing(running.Server):
-    """Such a store, of so many chains of the nodes 1 to 3, of that form, which serves as
-    running.OPTIONS say."""
+    """A store of `chains` chains of the nodes 1 to 3, of that form, which serves as running.OPTIONS
+    say."""
 
     def __init__(self, program, chains, form, journals):
         words = [program, str(chains), threads_asked(), form, "journals" if journals else "none"]
@@ -94,21 +94,21 @@ class Changing(running.Server):
         self.port = int(first.removeprefix("listening "))
 
     def line(self):
-        """The next line that it says."""
+        """Returns the next line that it prints."""
         tells, _, _ = select.select([self.process.stdout], [], [], running.PATIENCE)
         return self.process.stdout.readline().strip() if tells else "nothing"
 
     def told(self, order, chain, node):
-        """What it says to an order."""
+        """Returns its reply to an order."""
         self.process.stdin.write(f"{order} {chain} {node}\n")
         return self.line()
 
     def stops(self, chain, place):
-        """The member at this place of the chain stops: what it says."""
+        """Stops the member at this place of the chain. Returns the reply."""
         return self.told("stop", chain, self.members[chain][place])
 
     def replaces(self, chain, place):
-        """The stopped member at this place is removed, and another joins: what it says."""
+        """Removes the stopped member at this place, and lets another join. Returns both replies."""
         gone, came = self.members[chain].pop(place), self.next[chain]
         self.members[chain].append(came)
         self.next[chain] += 1
@@ -136,8 +136,8 @@ class Late(Exception):
 
 
 class Insistent(example.Client):
-    """A client that asks what is refused for the moment again at once, for so many seconds. It
-    knows the pass that came last, how often it asked, and how often again."""
+    """A client that asks again at once, for `seconds` seconds, what is refused for the moment. It
+    keeps the pass that came last, and counts its calls and its repetitions."""
 
     def __init__(self, address, client, seconds=PATIENCE):
         self.seconds, self.came, self.asked, self.again = seconds, 0, 0, 0

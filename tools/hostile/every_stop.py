@@ -1,8 +1,8 @@
 """A stop at every move: each node of a stored script stops after each of its moves, and schedules
 draw what comes next.
 
-The stored scripts are those of tools/rows/worked that are played, but for one of 1,031 lines, each
-of whose moves but the first few is like the last one. Every verdict on an explanation has to be
+The stored scripts are those of tools/rows/worked that are played, except one of 1,031 lines, whose
+moves after the first few are all alike. Every verdict on an explanation has to be
 true, with nodes of either core, and both print the same.
 """
 from tools.rows import playing, schedules, worked
@@ -12,22 +12,23 @@ CHOICES = 200
 
 
 def stored():
-    """The name, the number of nodes, the text and the wanted output of each stored script."""
+    """Returns the name, the number of nodes, the text and the wanted output of each stored
+    script."""
     rows = [it for it in worked.rows() if it[1][0] == "play" and it[0] not in LONG]
     return [(name, schedules.nodes_of(words), script, expected) for name, words, script, expected in rows]
 
 
 def moves_taken(script, expected):
-    """How many moves a script takes: its lines but empty ones, comments, `explain` and those that
-    are refused."""
+    """Returns how many moves a script takes: its lines except empty ones, comments, `explain` and
+    those that are refused."""
     lines = [it for it in script.splitlines() if it and not it.startswith(b"#")]
     return len(lines) - lines.count(b"explain") - sum(it.startswith(b"refused")
                                                       for it in expected.splitlines())
 
 
 def cuts(checks, program):
-    """Each node of the opening members stops after each move of each stored script; gives how many
-    runs there were."""
+    """Stops each node of the opening members after each move of each stored script. Returns the
+    number of runs."""
     cases = [(*it, node) for it in stored() for node in range(1, it[1] + 1)]
 
     def stop(case):
@@ -47,7 +48,7 @@ def cuts(checks, program):
 
 
 def drawn(checks, program, seeds):
-    """So many schedules of each stored script; gives how many runs there were."""
+    """Draws `seeds` schedules of each stored script, and returns the number of runs."""
     cases = [(*it, seed) for it in stored() for seed in range(1, seeds + 1)]
 
     def draw(case):
@@ -66,6 +67,6 @@ def drawn(checks, program, seeds):
 
 
 def tried(checks, program, seeds):
-    """Both, and what was tried, in words."""
+    """Runs both parts, and returns what was tried, in words."""
     stops, draws = cuts(checks, program), drawn(checks, program, seeds)
     return f"{len(stored())} scripts, {stops} runs with a stop, {draws} schedules"

@@ -13,7 +13,8 @@ ROW = re.compile(r"\| `(\w+)` \|[^\n]*\n")
 
 
 def of():
-    """Of which commit the programs are, when they were tried, and on how many processors."""
+    """Returns the commit of the programs, the time at which they were tried, and the number of
+    processors."""
     commit = subprocess.run(["git", "rev-parse", "--short", "HEAD"], cwd=repository.TOP, capture_output=True,
                             text=True, check=True).stdout.strip()
     return f"{commit}, {time.strftime('%-d %B %Y')}, {len(os.sched_getaffinity(0))} processors"

@@ -39,32 +39,32 @@ from tools.sockets import framed
 HALF, MUTE, LEAVERS = 1_000, 200, 200
 CALLS, TIMES, FLOOR = 3_000, 3, 0.002
 NOBODY, NEWCOMERS = 65534, 40
-# How long the system gives no more, and how long newcomers may then wait.
+# Seconds for which the system gives no more, and seconds that new clients may wait afterwards.
 LIMITED, BACK = 3.0, 10.0
-# How long a client waits for an answer that may never come, and how long after what was sent the
-# server has read all of it.
+# Seconds that a client waits for a reply that may never come, and seconds after which the server has
+# read all that was sent.
 SHORTLY, SETTLED = 0.5, 1.0
-# What is read by who never reads the replies, how often, and how many bytes of these the system
-# keeps for each.
+# For clients that never read their replies: the value that they ask for, how often they ask, and how
+# many bytes of replies the system keeps for each.
 BIG, READS, WINDOW = b"v" * 4_000, 1_000, 4_096
 PAGE = os.sysconf("SC_PAGE_SIZE")
 # The most bytes of a segment on an Ethernet.
 ETHERNET = 1_448
-# How a server is told to serve, the segments of those who never read (None: those of the loopback),
-# and how many seconds 99 of 100 honest calls may take where that is more than 3 times as long as
-# among idle connections.
+# The options of a server, the segments of those who never read (None: those of the loopback), and the
+# seconds that 99 of 100 honest calls may take where that is more than 3 times as long as among idle
+# connections.
 CROWDS = [([], ETHERNET, FLOOR), (["--threads", "2"], ETHERNET, 0), ([], None, FLOOR),
           (["--threads", "2"], None, 0)]
-# How many bytes the system may hold in each direction of a connection (docs/use/SERVER.md): twice
-# as many as the server asks for, and one segment of the loopback.
+# Bytes that the system may hold in each direction of a connection (docs/use/SERVER.md): twice as many
+# as the server asks for, and one segment of the loopback.
 HELD = 3 * 65_536
-# How /proc/net/tcp calls a connection that is open.
+# The state of an open connection in /proc/net/tcp.
 OPEN = "01"
-# How long a greedy client reads, how many puts it sends at once, and the most that it sends once it
-# reads no more.
+# Seconds for which a greedy client reads, the number of puts that it sends at once, and the most bytes
+# that it sends once it reads no more.
 READING, AT_ONCE, MOST_SENT = 1.0, 256, 64 << 20
-# How many MiB the crowd may take, and how many connections send what part of a request of the most
-# bytes, and how many these may take (docs/use/SERVER.md).
+# MiB that the crowd may take; by name, how many connections send which part of a request of the most
+# bytes, and the MiB that these may take (docs/use/SERVER.md).
 CROWD_TAKES = 110
 LENGTH = asked.LIMIT.to_bytes(4, "big")
 HALVES = {"the length of a request": (1_000, LENGTH, 40),
@@ -72,8 +72,8 @@ HALVES = {"the length of a request": (1_000, LENGTH, 40),
 
 
 class Crowded(running.Server):
-    """A server for many connections, with the options of running.OPTIONS and these, whose user may
-    have so many threads where that is wanted."""
+    """A server for many connections, with the options of running.OPTIONS and these. Its user may have
+    at most `threads` threads if that is given."""
 
     def __init__(self, craqd, most=None, threads=None, way=()):
         words = [*running.OPTIONS, *way, *(["--most", str(most)] if most else []), "--connections",
@@ -102,7 +102,7 @@ class Crowded(running.Server):
             return int(it.read().split()[0]) * PAGE
 
     def held(self):
-        """How many bytes the system holds for a connection at most: of those that its client has
+        """Returns the most bytes that the system holds for a connection: of those that its client has
         not taken, and of those that the server has not read."""
         with open("/proc/net/tcp", encoding="ascii") as it:
             rows = [line.split() for line in it]
@@ -110,7 +110,7 @@ class Crowded(running.Server):
         return [max(int(it, 16) for it in way) for way in zip(*held)]
 
     def connect_from(self, at, window=None, segment=None):
-        """A connection from one of some addresses, since each has only so many ports."""
+        """Returns a connection from one of some addresses, since an address has few ports."""
         made = socket.socket()
         if window:
             made.setsockopt(socket.SOL_SOCKET, socket.SO_RCVBUF, window)
@@ -133,7 +133,7 @@ class Honest:
         self.written, self.wrong, self.open = {}, [], None
 
     def request(self, value):
-        """The request of a put; what was not answered is asked again as it was."""
+        """Returns the request of a put. A request without a reply is asked again as it was."""
         self.open = value = self.open or value
         return example.update_request(1, self.shown, self.id, self.number,
                                       example.put(0, f"{self.id}-{self.number}", value))
@@ -165,7 +165,7 @@ class Honest:
         self.connection = None
 
     def finds(self):
-        """What it was told was written that is not read, or is read otherwise."""
+        """Returns the values that it was told are written and that a read does not return."""
         lost = []
         with example.Client(self.server.address, 2) as other:
             for key, value in self.written.items():
@@ -176,7 +176,7 @@ class Honest:
 
 
 def is_answered_at_last(client, value=b"last"):
-    """Whether the client is answered within a while."""
+    """Returns whether the client is answered within a while."""
     until = time.monotonic() + BACK
     while time.monotonic() < until:
         if client.tries(value):
@@ -186,7 +186,7 @@ def is_answered_at_last(client, value=b"last"):
 
 
 def slowest_of_most(client, count):
-    """Of so many calls: how long 99 of 100 take at most."""
+    """Makes `count` calls, and returns how long 99 of 100 take at most."""
     spent = []
     for _ in range(count):
         began = time.monotonic()
@@ -197,8 +197,8 @@ def slowest_of_most(client, count):
 
 
 def held(server, count, sends, window=None, segment=None):
-    """So many connections, each after it sent this; the system takes so many bytes for a reader
-    that never reads."""
+    """Returns `count` connections, each after it sent this. They never read; `window`, if given, is
+    how many bytes the system receives for each."""
     made = []
     for at in range(count):
         it = server.connect_from(at, window, segment)
@@ -212,12 +212,12 @@ def held(server, count, sends, window=None, segment=None):
 
 
 def big_reads():
-    """The bytes of many reads of a large value."""
+    """Returns the bytes of many reads of a large value."""
     return framed(example.one(1, example.read_request(1, 0, example.STRONG, 0, "big"))) * READS
 
 
 def leave(server, over):
-    """So many connections a second come and leave, until it is over."""
+    """Opens and closes LEAVERS connections a second, until it is over."""
     at = 0
     while not over.wait(1 / LEAVERS):
         server.connect_from(at).close()
@@ -225,7 +225,7 @@ def leave(server, over):
 
 
 def crowd(checks, craqd, way, segment, most):
-    """The crowd, and what was seen, in words."""
+    """Serves a crowd, and returns what was seen, in words."""
     segments = "an Ethernet" if segment else "the loopback"
     name = f"{' '.join(way) or 'a thread for each connection'}, segments of {segments}"
     server = Crowded(craqd, HALF + MUTE + LEAVERS + 200, way=way)
@@ -270,7 +270,8 @@ def crowd(checks, craqd, way, segment, most):
 
 
 def has_gone(checks, name, client, crowd):
-    """The crowd ends: the honest client was told nothing wrong, is answered, and finds what it wrote."""
+    """Checks, after the crowd, that the honest client saw nothing wrong, is answered, and finds
+    what it wrote."""
     for it in crowd:
         it.close()
     checks.that(is_answered_at_last(client), f"the client is answered once the crowd has gone ({name})")
@@ -286,8 +287,8 @@ def read_until(connection, until):
 
 
 def greedy(checks, craqd):
-    """The system holds no more for a client that it served fast than for any other; gives how much,
-    in words."""
+    """Checks that the system holds no more for a client that was served fast than for any other.
+    Returns how much, in words."""
     server = Crowded(craqd)
     try:
         put = framed(example.one(1,
@@ -327,7 +328,8 @@ class Few:
             self.all[0].tries(b"a")
 
     def ask_for(self, seconds):
-        """All newcomers ask in turn for so long, and the client that was there asks after each."""
+        """Lets all new clients ask in turn until the time is over, and the earlier client after
+        each."""
         first, *newcomers = self.all
         until = time.monotonic() + seconds
         while time.monotonic() < until:
@@ -382,7 +384,7 @@ def holds_halves(checks, craqd):
 
 
 def limited(checks, craqd, name, what):
-    """For a while the system gives the running server no more of this."""
+    """Checks a running server to which the system gives no more of this for a while."""
     server = Crowded(craqd)
     try:
         few = Few(server)
@@ -397,8 +399,8 @@ def limited(checks, craqd, name, what):
 
 
 def limited_threads(checks, craqd):
-    """The system gives no more threads while some connections are held, each of which has one
-    unless a few threads serve all."""
+    """Checks a server to which the system gives no more threads while some connections are held.
+    Each connection has a thread unless a few threads serve all."""
     server = Crowded(craqd)
     own = server.threads()
     server.kill()
@@ -418,7 +420,7 @@ def limited_threads(checks, craqd):
 
 
 def told_at_once(made):
-    """What comes on a connection shortly, and whether it then ends."""
+    """Returns the bytes that come on a connection shortly, and whether it then ends."""
     said = b""
     try:
         while more := made.recv(100):
@@ -429,8 +431,8 @@ def told_at_once(made):
 
 
 def one_too_many(checks, craqd):
-    """One connection more than may be is closed without a reply; once one has gone another is
-    served."""
+    """Checks that one connection more than the most is closed without a reply, and that another is
+    served once one has gone."""
     server = Crowded(craqd, most=8)
     try:
         some = [example.Connection(server.address) for _ in range(8)]
@@ -450,8 +452,8 @@ def one_too_many(checks, craqd):
 
 
 def limits(checks, craqd):
-    """Half requests, a greedy client, the three limits and one connection too many in one way of
-    serving, and what was seen, in words."""
+    """Tries half requests, a greedy client, the three limits and one connection too many in one way
+    of serving. Returns what was seen, in words."""
     told = [holds_halves(checks, craqd), greedy(checks, craqd),
             limited(checks, craqd, "open files", resource.RLIMIT_NOFILE),
             limited(checks, craqd, "memory", resource.RLIMIT_AS)]
@@ -461,6 +463,6 @@ def limits(checks, craqd):
 
 
 def tried(checks, craqd):
-    """All of them, and what was tried, in words."""
+    """Tries all limits in each way of serving, and returns what was tried, in words."""
     return "; ".join([*(crowd(checks, craqd, *it) for it in CROWDS),
                       running.in_each_way(checks, lambda: limits(checks, craqd))])

@@ -90,7 +90,7 @@ __attribute__((destructor)) static void tell_counts(void) {
     tell(line);
 }
 
-/* Whether one of the named calls runs in this thread. Its frames are linked, each at a higher address than the one that it called. */
+/* Returns whether one of the named calls runs in this thread. Its frames are linked, each at a higher address than the one that it called. */
 static int runs_within(void) {
     uintptr_t *frame = __builtin_frame_address(0);
     uintptr_t top = stack_end ? stack_end : (uintptr_t)__libc_stack_end;
@@ -111,7 +111,7 @@ static int refuses(atomic_long *asked, long at) {
     return 1;
 }
 
-/* Whether what this thread asks for counts now. */
+/* Returns whether a request of this thread for memory or a thread counts now. */
 static int is_counted(void) {
     return counts && (!call || runs_call);
 }
@@ -158,7 +158,7 @@ int pthread_create(pthread_t *made, const pthread_attr_t *how, void *(*run)(void
     return status;
 }
 
-/* Whether these bytes are the mark of this word, as `begin`, and of which call: of the one that counts (2), or of another (1). */
+/* Returns 0 if these bytes are no mark of this word, as `begin`; 2 for a mark of the call that counts, 1 for that of another. */
 static int is_mark(const char *word, const char *bytes, size_t size) {
     char line[MOST_MARK];
     int length = snprintf(line, sizeof line, "%s %s\n", word, call);

@@ -41,7 +41,7 @@ class Library:
                        check=True)
 
     def refusing(self, **what):
-        """The environment of a program, and the file in which the library tells of it."""
+        """Returns the environment of a program, with the file to which the library writes."""
         told = os.path.join(self.folder, f"told-{next(self.made)}")
         return {"LD_PRELOAD": self.file, "REFUSE_TOLD": told,
                 **{f"REFUSE_{name.upper()}": str(it) for name, it in what.items()}}
@@ -64,7 +64,7 @@ class Under(NamedTuple):
 
 
 def told_in(env):
-    """What the library told."""
+    """Returns what the library wrote to its file, and removes the file."""
     try:
         with open(env["REFUSE_TOLD"], encoding="ascii") as it:
             text = it.read()
@@ -78,7 +78,7 @@ def told_in(env):
 
 
 def keeps_frames(program, start):
-    """Whether the call that begins there links its frame to the one that called it, as the library
+    """Returns whether the call that begins there links its frame to that of its caller, as the library
     needs it."""
     words = ["objdump", "-d", f"--start-address={start}", f"--stop-address={start + 8}", program]
     text = subprocess.run(words, capture_output=True, text=True, errors="replace").stdout
@@ -86,7 +86,7 @@ def keeps_frames(program, start):
 
 
 def ranges(program, pattern):
-    """Where the calls of this name are in the program, as the library takes it; empty where it does
+    """Returns the addresses of the calls of this name, as the library takes them. Empty if it does
     not see them: they have no name, or do not keep frames."""
     found = []
     for line in subprocess.run(["nm", "-S", "--defined-only", program], capture_output=True, text=True,
@@ -101,7 +101,7 @@ def ranges(program, pattern):
 
 
 def plays():
-    """The words, the text and the wanted output of each script, with either core."""
+    """Yields the words, the text and the wanted output of each script, with either core."""
     rows = {name: (words, script, expected) for name, words, script, expected in worked.rows()}
     for name in PLAYED:
         words, script, expected = rows[name]
@@ -111,15 +111,15 @@ def plays():
 
 
 def told_under(library, program, words, script, **what):
-    """What the program tells under the library, and what that tells."""
+    """Returns the status and the output of the program under the library, and what the library wrote."""
     env = library.refusing(**what)
     ran = subprocess.run([program, *words], input=script, capture_output=True, timeout=PATIENCE, env=env)
     return playing.Told(ran.returncode, ran.stdout, ran.stderr), told_in(env)
 
 
 def played(checks, library, program):
-    """Each ask for memory refused while a script is played; gives how many were, and how many asks
-    each named call has."""
+    """Plays a script once for each ask for memory, which is refused. Returns their number, and how
+    many asks each named call has."""
     refused = 0
     within = {name: ranges(program, pattern) for name, pattern in LAB_CALLS.items()}
     asked = {name: 0 for name, found in within.items() if found}
@@ -143,8 +143,8 @@ def played(checks, library, program):
 
 
 def quiet(checks, library, program):
-    """A message that is ignored, and a stop, ask for no memory in the step of a node; gives how
-    many moves and which reasons were seen."""
+    """Checks that an ignored message and a stop ask for no memory in the step of a node. Returns
+    the number of moves and the reasons that were seen."""
     step, seen, reasons = ranges(program, LAB_CALLS["Core::step"]), 0, set()
     cases = [(name, nodes, script.splitlines(keepends=True), core) for name, nodes, script,
              _ in every_stop.stored() for core in playing.CORES]
@@ -170,7 +170,7 @@ def quiet(checks, library, program):
 
 
 def tried(checks, craq_lab):
-    """All of them, and what was tried, in words."""
+    """Tries all of them, and returns what was tried, in words."""
     with tempfile.TemporaryDirectory(prefix="refused-") as folder:
         library = Library(folder)
         scripts, asks = played(checks, library, craq_lab)

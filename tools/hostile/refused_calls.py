@@ -53,7 +53,7 @@ PUT_OFF = (r"craq_compact_state::indexing::list_entries$|craq_compact_state::app
 HISTORY = re.compile(rb"^history: appended (\d+), unfolded (\d+)$", re.M)
 # The call whose last allocations are those of the master's messages.
 POSTS = ("Store::join",)
-# So many members a chain has at most.
+# Number of members that a chain has at most.
 FULL = 8
 # A call that the program tells, and its last answer.
 CALL = re.compile(r"call CallReceipt .*?id: (\d+).*?Ticket \{ ticket: (\d+) \}.* answer: "
@@ -79,7 +79,7 @@ def is_after_its_step(found, ample, call):
 
 
 def parted(output):
-    """The lines that tell of steps, and those that tell of answered calls."""
+    """Returns the lines about steps, and the lines about answered calls."""
     lines = output.splitlines()
     return [it for it in lines if not it.startswith(b"call ")], [it for it in lines
                                                                  if it.startswith(b"call ")]
@@ -120,13 +120,13 @@ def fits(found, ample, call, kind, limit, under):
 
 
 def differing(found, ample):
-    """Where what is told differs, in words."""
+    """Returns where the output differs, in words."""
     lines = [it for it in zip(found.output.splitlines(), ample.output.splitlines()) if it[0] != it[1]]
     return f"status {found.status}, errors {found.errors}, first other line {lines[:1]}"[:600]
 
 
 def numbers_in(text):
-    """The numbers and bytes of a text, in order, whichever way they are printed."""
+    """Returns the numbers and bytes of a text, in order, in whichever form they are printed."""
     found = []
     for it in re.findall(r"0x[0-9a-f]*|\d+", text):
         found += bytes.fromhex(it[2:]) if it.startswith("0x") else [int(it)]
@@ -134,30 +134,31 @@ def numbers_in(text):
 
 
 def answered(output):
-    """The answers that the program tells, each as its node, its ticket, its word and its numbers."""
+    """Returns the answers that the program prints, each as its node, its ticket, its word and its
+    numbers."""
     found = map(CALL.fullmatch, output.decode().splitlines())
     return sorted((int(it[1]), int(it[2]), it[3].lower(), numbers_in(it[4])) for it in found if it)
 
 
 def stored_answers(expected):
-    """The same of what is stored of a script."""
+    """Returns the answers of a script in its stored output: node, ticket, word and numbers, sorted."""
     found = re.findall(r"^answer (\d+) (\d+) (\w+)(.*)$", expected.decode(), re.M)
     return sorted((int(node), int(ticket), word, numbers_in(rest)) for node, ticket, word, rest in found)
 
 
 def explained(output):
-    """The numbers of the explanation that the program tells, in order."""
+    """Returns the numbers of the explanation that the program prints, in order."""
     return numbers_in(output.decode().rpartition("Ok(Explanation {")[2])
 
 
 def stored_explanation(expected):
-    """The same of what is stored of a script that ends with `explain`."""
+    """Returns the numbers of the explanation in the stored output of a script that ends with `explain`."""
     told = json.loads(expected.splitlines()[-1])
     return numbers_in(json.dumps([told[it] for it in ("asks", "lens", "places")]))
 
 
 def quiet_steps(script, expected):
-    """How many stops and ignored messages a script has, as is stored of it."""
+    """Returns the number of stops and ignored messages of a script, by its stored output."""
     stops = sum(it.startswith(b"stop ") for it in script.splitlines())
     return stops + sum(it.startswith(b"ignored ") for it in expected.splitlines())
 

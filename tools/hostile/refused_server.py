@@ -1,10 +1,10 @@
 """Each ask for memory, and each thread, refused in turn in a server that is asked meanwhile, in
 each way of serving (refused.py tells how).
 
-A server that has told its port answers: what it refuses for want of memory, or closes, is asked
-again with its number, every ask has its answer in the end, no update is done twice, and the audits
-confirm what was answered. In its end it may tell `no memory`, of a connection or of an audit. One
-that has not told its port ends with `no memory` and nothing else.
+A server that has printed its port answers. An ask that it refuses when out of memory, or closes, is
+asked again with its number: every ask has its answer in the end, no update is done twice, and the
+audits confirm what was answered. In its end it may print `no memory`, of a connection or of an audit.
+One that has not printed its port ends with `no memory` and nothing else.
 """
 import re
 import subprocess
@@ -17,10 +17,10 @@ from tools.hostile import refused
 from tools.hostile.asked import example
 from tools.rows import playing
 
-# What the server is asked in each run, and how often the same may be asked again.
+# The client, its number of connections, how often it asks again, and the seconds that it waits.
 CLIENT, CONNECTIONS, AGAIN, PATIENCE = 77, 24, 12, 10
 OPEN = (example.STOPPED, example.MEMORY, example.CLOSED)
-# How many asks for memory are refused in a server, and how many threads.
+# Number of requests for memory that are refused in a server, and of threads.
 MEMORY, THREADS = 2_000, 40
 
 
@@ -29,13 +29,13 @@ class Ended(Exception):
 
 
 class Asker:
-    """A client that asks again, with the same number, what was refused for want of memory or had no reply."""
+    """A client that asks again, under its number, what was refused when out of memory or had no reply."""
 
     def __init__(self, server):
         self.server, self.connection, self.shown, self.asked, self.number = server, None, 0, 0, 0
 
     def asks(self, request):
-        """What a request is told in the end."""
+        """Returns the last reply to a request."""
         for _ in range(AGAIN):
             try:
                 if not self.connection:
@@ -70,13 +70,13 @@ class Asker:
         self.connection = None
 
 
-# How many rounds of a put and a read at each node come last, and how many asks of the chain there are in all.
+# Number of rounds of a put and a read at each node that come last, and of all asks of the chain.
 ROUNDS = 24
 ASKS = 11 + 4 * ROUNDS
 
 
 def answers(asker):
-    """What the server is asked, what it answers, and what it should."""
+    """Yields each ask in words, its reply, and the reply that it should have."""
     Read, Written = example.Read, example.Written
     yield "a put", asker.updates(example.put(0, "k", b"a")), Written(1)
     yield "an append", asker.updates(example.append(0, "k", b"b" * 300)), Written(2)
@@ -97,8 +97,8 @@ def answers(asker):
 
 
 class Run(NamedTuple):
-    """How a server ran with something refused: what was wrong, its status, whether it told its
-    port, and whether something was refused."""
+    """A run of a server with something refused: the faults that were found, its status, whether it
+    printed its port, and whether something was refused."""
 
     faults: list
     status: int
@@ -107,7 +107,7 @@ class Run(NamedTuple):
 
 
 def ended(server):
-    """Makes the connections that are left, and gives what the server told as it ended."""
+    """Makes the connections that are left, and returns what the server printed as it ended."""
     while server.left > 0 and server.runs():
         try:
             server.connect().close()
@@ -121,15 +121,15 @@ def ended(server):
 
 
 def audited(out, answered, asked, is_whole):
-    """Whether the end of a server's output confirms at least so many answered asks of chain 0, at
-    most those that were asked; where that need not be whole, an audit may be lacking."""
+    """Returns whether the end of a server's output confirms at least `answered` asks of chain 0, and at
+    most `asked`. If the output need not be whole, an audit may be lacking."""
     found = re.fullmatch(r"(?:audit merged ([0-9]+)\n(audit merged 0\n)?)?", out)
     return bool(found) and (found[2] or not is_whole) and (not found[1] or answered <= int(found[1]) <= asked)
 
 
 def asked_all(asker):
-    """What was wrong with the answers that came, and how many of asks of the chain were right,
-    until all came or the server ended, which is wrong."""
+    """Returns the faults of the answers that came, and how many asks of the chain had the right one.
+    Ends when all came, or when the server ended, which is a fault."""
     faults, right = [], 0
     try:
         for what, found, wanted in answers(asker):
@@ -142,7 +142,7 @@ def asked_all(asker):
 
 
 def served(craqd, env):
-    """A server that is asked while something is refused."""
+    """Asks a server while something is refused."""
     server = running.Server(craqd, running.PLAN, CONNECTIONS, env=env)
     asker = Asker(server)
     try:
@@ -164,8 +164,8 @@ def served(craqd, env):
 
 
 def attacked(checks, library, craqd, what, count, name):
-    """One server for each number up to this, in which that ask for memory or thread is refused;
-    gives in how many it was once they listened, and what came of all, in words."""
+    """Runs one server for each number up to this, in which that ask for memory or thread is
+    refused. Returns in how many it was refused once they listened, and a summary in words."""
     numbers = range(1, count + 1)
     runs = playing.side_by_side(lambda at: served(craqd, library.refusing(**{what: at})), numbers)
     for at, run in zip(numbers, runs):
@@ -179,7 +179,8 @@ def attacked(checks, library, craqd, what, count, name):
 
 
 def all_of(checks, library, craqd):
-    """Each ask for memory and each thread refused in one way of serving, and what was tried, in words."""
+    """Refuses each ask for memory and each thread in one way of serving, and returns what was
+    tried, in words."""
     checks.same("craqd with ample memory", served(craqd, library.refusing()), Run([], 0, True, False))
     late, memory = attacked(checks, library, craqd, "memory", MEMORY, "asks for memory")
     checks.that(late > MEMORY // 2,
@@ -188,7 +189,7 @@ def all_of(checks, library, craqd):
 
 
 def tried(checks, craqd):
-    """All of them in each way of serving, and what was tried, in words."""
+    """Tries all of them in each way of serving, and returns what was tried, in words."""
     with tempfile.TemporaryDirectory(prefix="refused-") as folder:
         library = refused.Library(folder)
         return running.in_each_way(checks, lambda: all_of(checks, library, craqd))

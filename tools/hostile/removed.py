@@ -13,7 +13,7 @@ OBJECTS, VALUE, ATONCE = 2_000, b"v" * 4_000, 8
 # one of the rest: where nodes stay these 20 turns add 160. What comes and goes between two turns is
 # up to 20.
 FIRST, TURNS, GROWTH = 10, 30, 48
-# How many seconds a node that joined may take to hold all objects.
+# Seconds that a node that joined may take to hold all objects.
 COPIED = 60
 
 
@@ -22,13 +22,13 @@ def key(at):
 
 
 def fill(client):
-    """Each object is written once."""
+    """Writes each object once."""
     for begin in range(0, OBJECTS, ATONCE):
         client.many([client.asks_put(key(at), VALUE) for at in range(begin, begin + ATONCE)])
 
 
 def replaced(checks, store, client, turn):
-    """A member is replaced, and the new one answers with what it has to hold."""
+    """Replaces a member, and checks that the new one answers with what it has to hold."""
     place = turn % 3
     checks.same("what comes of a stop", store.stops(0, place), "done")
     checks.same("what comes of a removal and a join", store.replaces(0, place), ("done", "done"))
@@ -40,7 +40,7 @@ def replaced(checks, store, client, turn):
 
 
 def replaces_all(checks, program):
-    """The members of a store are replaced; gives what was seen, in words."""
+    """Replaces the members of a store, and returns what was seen, in words."""
     store = changing.Changing(program, 1, changing.usual_form(), journals=False)
     try:
         client = changing.Insistent(store.address, 1, COPIED)
@@ -66,5 +66,5 @@ def replaces_all(checks, program):
 
 
 def tried(checks):
-    """It in each way of serving, and what was tried, in words."""
+    """Replaces members in each way of serving, and returns what was tried, in words."""
     return changing.used(checks, lambda program: replaces_all(checks, program))

@@ -50,7 +50,7 @@ LEFT_OUT = "left out: its program is missing, which ./test makes"
 
 
 def parts(asked):
-    """The parts by name, each as a call that gives what it tried, in words."""
+    """Returns the parts by name, each as a call that returns what it tried, in words."""
     found = {
         "stops": lambda checks: every_stop.tried(checks, asked.craq_lab, SEEDS),
         "bytes": lambda checks: attack.tried(checks, asked.craqd),

@@ -1,6 +1,6 @@
-"""What a server promises a client, while its members change: in each way of serving clients ask a
-store of each form, of some chains, over TCP, and all the while a member of some chain stops, is
-removed, and another joins (changing.py). One message in 97 is lost.
+"""Checks the guarantees of a server to its clients while its members change: in each way of serving
+clients ask a store of each form, of some chains, over TCP, and all the while a member of some chain
+stops, is removed, and another joins (changing.py). One message in 97 is lost.
 
 Each process of clients has some, which ask one thing after another with the client of
 tools/plain_client.py, lose replies and ask again, and look at all that a client can see:
@@ -11,10 +11,10 @@ tools/plain_client.py, lose replies and ask again, and look at all that a client
   so on, each given once
 - no version of it that is written or read strongly is older than any answer, of any client, that
   ended before it was asked
-- no strong read that shows a pass, whoever was told it, is older than any answer that came with
-  that pass or a smaller one
-- an update that is asked again with its number has the reply that it had, whether that was lost or
-  not, and whoever is the head now
+  - no strong read that shows a pass, of any client, is older than any answer that came with that
+    pass or a smaller one
+  - an update that is asked again with its number has the reply that it had, whether that was lost or
+    not, at any later head
 - each call is answered in ten seconds, however often it is refused meanwhile
 
 In the end no chain has lost an answer, by an audit of all its nodes, those that went too.
@@ -28,11 +28,11 @@ from tools.hostile import changing, soak
 from tools.hostile.asked import example
 
 CHAINS, PROCESSES, ATONCE = 8, 3, 4
-# Clients ask until so many asks are answered, for so many seconds at most. How often they lose a
-# reply, and how many numbers of updates back they ask again.
+# Clients ask until ANSWERED asks are answered, for MOST_SECONDS seconds at most. LOST is the share of
+# replies that they lose; KEPT is how many numbers of updates back they ask again.
 ANSWERED, MOST_SECONDS, LOST, KEPT = 100_000, 900, 0.02, 4
-# How long a stopped member stays, in seconds, at most, and how many changes of members each store
-# has to make in a second.
+# Seconds that a stopped member stays at most, and changes of members that each store has to make in a
+# second.
 STAYS, DUE = 0.05, 2
 
 
@@ -93,7 +93,8 @@ class Asker:
             self.learns(chain, told.version)
 
     def repeats(self, chain):
-        """An update of the last ones again, with another command: its reply is the first one."""
+        """Repeats one of the last updates with another command. Its reply has to be the first
+        one."""
         number = self.draw.choice(sorted(self.replies[chain])[-KEPT:])
         told, wanted = self.updates(chain, number,
                                     example.put(chain, "never", b"")), self.replies[chain][number]
@@ -107,7 +108,7 @@ class Asker:
                      f"a read of its own object, of version {len(own)}", told)
 
     def reads_shared(self, chain):
-        """A strong read. Half of them show the largest pass that any client was told."""
+        """Makes a strong read. Half of them show the largest pass of any client's reply."""
         before, shown = self.newest[chain], self.draw.choice([0, self.passes[chain]])
         self.client.shown = max(self.client.shown, shown)
         told = self.client.read("shared", chain=chain)
@@ -119,15 +120,15 @@ class Asker:
             self.learns(chain, told.version)
 
     def learns(self, chain, version):
-        """All know of an answer about the object that they count up, and its pass."""
+        """Shares an answer about the object that all count up, and its pass, with all clients."""
         self.seen.told[chain].append((self.client.came, version))
         self.newest[chain] = max(self.newest[chain], version)
         self.passes[chain] = max(self.passes[chain], self.client.came)
 
 
 def asking(at, address, newest, passes, answered, over, given):
-    """A process: its clients ask by turns until it is over, and it gives what they saw; meanwhile
-    all see how many asks were answered."""
+    """Runs one process of clients, which ask by turns until it is over, and reports what they saw.
+    Meanwhile all see how many asks were answered."""
     seen, again = soak.Seen(CHAINS), 0
     try:
         draw = random.Random(at)
@@ -165,8 +166,8 @@ def changed(checks, store, answered, given):
 
 
 def ends(checks, store, seen, looks):
-    """The store ends, and each chain is audited with all that was answered; beside the clients'
-    asks so many looked at members that joined. Gives how many audits were merged."""
+    """Ends the store: each chain is audited with all that was answered. `looks` has, for each chain,
+    the number of reads at members that joined. Returns how many audits were merged."""
     status, lines, err = store.ends()
     checks.same("how the store ends", (status, err), (0, ""))
     checks.same("how many chains are audited", len(lines), CHAINS)
@@ -182,7 +183,7 @@ def ends(checks, store, seen, looks):
 
 
 def serves(checks, program, form):
-    """One store; gives what was tried, in words."""
+    """Runs one store, and returns its counts in words."""
     store = changing.Changing(program, CHAINS, form, journals=True)
     try:
         newest, passes = (multiprocessing.Array("Q", CHAINS, lock=False) for _ in range(2))
@@ -209,7 +210,7 @@ def serves(checks, program, form):
 
 
 def told(checks, seen, seconds, changes, again, merged):
-    """What was tried, in words; enough of it was."""
+    """Checks that enough was tried, and returns the counts in words."""
     answered = sum(sum(it.answered) for it in seen)
     lost, repeated = sum(it.lost for it in seen), sum(it.repeated for it in seen)
     checks.that(answered >= ANSWERED and changes >= DUE * seconds and min(lost, repeated, again) > 0,
@@ -221,7 +222,7 @@ def told(checks, seen, seconds, changes, again, merged):
 
 
 def tried(checks):
-    """It in each way of serving, with a store of each form, and what was tried, in words."""
+    """Serves in each way, with a store of each form, and returns the counts in words."""
     return changing.used(checks,
                          lambda program: changing.in_each_form(checks,
                                                                lambda form: serves(checks, program, form)))

@@ -19,8 +19,8 @@ client each, and looks at all that a client can see:
 - the versions that all clients were given of an object that they count up together are 1, 2, 3 and
   so on, each given once
 - no strong read is older than any answer, of any process, that ended before it was asked
-- no strong read that shows a pass, whoever was told it, is older than any answer that came with
-  that pass or a smaller one
+  - no strong read that shows a pass, of any client, is older than any answer that came with that
+    pass or a smaller one
 - an update that is asked again with its number has the reply that it had, whether that was lost or not
 
 A running server lets no client stop, remove or join a node. These come up in the stores and in the
@@ -48,25 +48,25 @@ from tools.hostile.asked import example
 from tools.rows import playing, schedules, scripts
 
 CHAINS, NODES = 64, (1, 2, 3)
-# How many processes ask, how many connections each has at a time, and how often each may connect in all.
+# Number of processes that ask, of connections of each at a time, and of connections that each may make.
 PROCESSES, ATONCE, CONNECTS = 3, 4, 400
 ASKS, LOST, KEPT = 8, 0.005, 8
 OPEN = (example.STOPPED, example.PENDING_FULL, example.MEMORY, example.CLOSED)
 # In which part of the time stores on threads run.
 STORED = 0.6
-# How many seconds a server runs with journals at most: they grow by some 10 MiB a second.
+# Seconds that a server runs with journals at most: they grow by some 10 MiB a second.
 JOURNALED = 120
-# How many MiB a server without journals may grow by from the second tenth of its time on.
+# MiB by which a server without journals may grow from the second tenth of its time on.
 GROWTH = 24
-# How many processes play scripts, how far apart their seeds begin, and how many schedules are drawn
-# of a script.
+# Number of processes that play scripts, the distance of the seeds at which they begin, and the number
+# of schedules that are drawn of a script.
 PLAYERS, FAR, DRAWS = 2, 1_000_000, 3
-# What is counted in all parts together, with its name in words.
+# The counts of all parts together, by name, each with its name in words.
 COUNTED = {"answered": "calls answered", "stops": "stops", "joins": "joins", "lost": "messages lost",
            "late": "messages or work late", "twice": "messages that came twice",
            "unheard": "replies lost", "repeated": "updates repeated", "passes": "reads with a pass",
            "merged": "audits merged"}
-# What five minutes on four processors have to make.
+# The counts that five minutes on four processors have to reach.
 DUE = {"answered": 1_000_000, "stops": 1_000, "joins": 1_000}
 
 
@@ -75,7 +75,7 @@ def plan():
 
 
 class Seen:
-    """What one process asked of so many chains, was told, and found wrong."""
+    """The counts, the answers and the faults that one process saw at `chains` chains."""
 
     def __init__(self, chains=CHAINS):
         self.faults, self.counted = [], {chain: [] for chain in range(chains)}
@@ -114,7 +114,7 @@ class Writer:
         return example.update_request(NODES[0], self.shown, self.id, number, command)
 
     def chosen(self, chain):
-        """What is asked next: a kind of ask, what it needs to be looked at, and its request."""
+        """Draws the next ask. Returns its kind, what its reply is checked with, and its request."""
         pick = self.draw.random()
         if pick < 0.3:
             number = self.next_number(chain)
@@ -150,7 +150,7 @@ class Writer:
         self.seen.asked[self.chain] += len(self.asks)
 
     def may_lose(self):
-        """Now and then the reply is not waited for, and the same is asked again."""
+        """Drops the reply now and then, and asks the same again."""
         if self.budget > 1 and self.draw.random() < LOST:
             self.seen.lost += 1
             self.connection.close()
@@ -202,21 +202,21 @@ class Writer:
                 self.learn(told.version, shown)
 
     def learn(self, version, shown):
-        """All know of an answer about the object that they count up, and its pass."""
+        """Shares an answer about the object that all count up, and its pass, with all clients."""
         self.seen.told[self.chain].append((shown, version))
         self.newest[self.chain] = max(self.newest[self.chain], version)
         self.passes[self.chain] = max(self.passes[self.chain], shown)
 
     def own_reads(self):
-        """What may be read of this client's object: its newest; where the same was asked before,
-        also what it puts then."""
+        """Returns the reads of this client's object that may be answered: of its newest value, and if
+        this payload was sent before, of each value that its later puts write."""
         own = self.own[self.chain]
         values = (own[-1:] or [b""]) + (self.coming[len(self.coming) - self.left_to_put():] if self.sent > 1
                                         else [])
         return [example.Read(len(own) + at, it) for at, it in enumerate(values)]
 
     def left_to_put(self):
-        """How many of the values that are put in this payload were not looked at yet."""
+        """Returns how many of the values that this payload puts have no checked reply yet."""
         own = self.own[self.chain]
         return sum(it not in own[-len(self.coming):] for it in self.coming) if self.coming else 0
 
@@ -228,7 +228,7 @@ class Writer:
 
 
 def asking(at, address, newest, passes, until, given):
-    """One process: it asks until that time, and gives what it saw."""
+    """Runs one process of clients, which ask until that time, and reports what it saw."""
     seen = Seen()
     try:
         draw = random.Random(at)
@@ -251,7 +251,7 @@ def asking(at, address, newest, passes, until, given):
 
 
 def looked_at(checks, seen):
-    """What all processes saw together."""
+    """Checks what all processes saw together."""
     for it in seen:
         checks.same("what a process of clients found wrong", it.faults, [])
     for chain in range(len(seen[0].asked)):
@@ -265,15 +265,16 @@ def looked_at(checks, seen):
 
 
 def older(told, showed):
-    """Of the reads that showed a pass, as pairs of that and a version: those older than an answer,
-    as such a pair, that came with no larger one."""
+    """Returns the reads, as pairs of the pass that they showed and a version, that are older than
+    an answer which came with no larger pass."""
     passes, newest = [it for it, _ in told], [*itertools.accumulate((it for _, it in told), max, initial=0)]
     return [(shown, version) for shown, version in showed
             if version < newest[bisect.bisect_right(passes, shown)]]
 
 
 def memory_of(server, until):
-    """The most memory that the server has in the second tenth of its time, and the most in the last tenth."""
+    """Returns the most memory that the server has in the second tenth of its time, and the most in
+    the last tenth."""
     began = time.monotonic()
     early = late = 0.0
     while (now := time.monotonic()) < until and server.runs():
@@ -285,8 +286,8 @@ def memory_of(server, until):
 
 
 def served(checks, craqd, seconds, journal):
-    """One server that is asked for so long; gives what was counted, and how many asks were
-    answered, in words."""
+    """Asks one server for `seconds` seconds. Returns the counts, and how many asks were answered,
+    in words."""
     server = running.Server(craqd, plan(), PROCESSES * CONNECTS + 1, journal=journal)
     try:
         newest, passes = (multiprocessing.Array("Q", CHAINS, lock=False) for _ in range(2))
@@ -323,8 +324,8 @@ def served(checks, craqd, seconds, journal):
 
 
 def asked_for(checks, craqd, seconds, counts):
-    """A server with journals, and one without, for so long together; adds to the counts, and gives
-    what was seen, in words."""
+    """Asks a server with journals, and one without, for `seconds` seconds together. Adds to the
+    counts, and returns what was seen, in words."""
     journaled, told = min(seconds / 2, JOURNALED), []
     for each, journal in (journaled, True), (seconds - journaled, False):
         more, words = served(checks, craqd, each, journal)
@@ -334,7 +335,7 @@ def asked_for(checks, craqd, seconds, counts):
 
 
 def ends(checks, server, seen, journal):
-    """The connections that are left are made; then each chain is audited."""
+    """Makes the connections that are left; then each chain is audited."""
     while server.left > 0 and server.runs():
         server.connect().close()
     out, err = server.process.communicate(timeout=running.PATIENCE * 30)
@@ -351,7 +352,7 @@ def ends(checks, server, seen, journal):
 
 
 def script_of(craq_lab, seed):
-    """A random script: its text, whether all is well with it, and what was counted in it."""
+    """Plays a random script. Returns its text, whether all is well with it, and its counts."""
     kind = scripts.KINDS[seed % len(scripts.KINDS)]
     text, (plain, other) = scripts.played(craq_lab, kind, seed)
     is_well = plain.status == 0 and not plain.errors and plain == other
@@ -367,7 +368,8 @@ def script_of(craq_lab, seed):
 
 
 def scripted(craq_lab, seed, until, given):
-    """Random scripts until that time: what was counted, and the names of files with those that failed."""
+    """Plays random scripts until that time. Returns the counts, and the names of files with the
+    scripts that failed."""
     counts, failed = collections.Counter(), []
     while time.monotonic() < until:
         at = seed + counts["scripts"]
@@ -381,12 +383,13 @@ def scripted(craq_lab, seed, until, given):
 
 
 def in_all(counts):
-    """What was counted in all parts of the soak, in words."""
+    """Returns the counts of all parts of the soak, in words."""
     return "in all " + ", ".join(f"{counts[name]} {words}" for name, words in COUNTED.items())
 
 
 def is_enough(checks, counts, minutes, names):
-    """As much was done as is due in so many minutes on the processors that there are, of four at most."""
+    """Checks that the counts reach their share for `minutes` minutes on the processors that there are,
+    of four at most."""
     share = minutes / 5 * min(4, len(os.sched_getaffinity(0))) / 4
     for name in names:
         checks.that(counts[name] >= DUE[name] * share, f"{COUNTED[name]} in {minutes} minutes: "
@@ -394,7 +397,7 @@ def is_enough(checks, counts, minutes, names):
 
 
 def tried(checks, craq_lab, craqd, minutes):
-    """The soak, and what was tried, in words."""
+    """Runs the soak, and returns what was tried, in words."""
     if shutil.which("rt"):
         counts, stored = stores.tried(checks, minutes * STORED * 60)
         more, words = scripts_and_servers(checks, craq_lab, craqd, minutes * (1 - STORED))

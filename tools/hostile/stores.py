@@ -31,9 +31,9 @@ NAME, KIT = "craq_soak", ("rand_core", "rand_pcg")
 OWN = ("craq_names", "craq_commands", "craq_model", "craq_runs", "craq_compact_history", "craq_seat",
        "craq_audit", "craq_place", "craq_workers")
 CHAINS = 64
-# How many clients a store has, and how many calls each makes: of the small stores, and of the large ones.
+# Number of clients of a store, and of calls of each: of the small stores, and of the large ones.
 SMALL, LARGE = (8, 250), (32, 3_125)
-# What the last store may take beside the time that it is given.
+# Seconds that the last store may take beside the time that it is given.
 MORE = 600
 # The checks also look for memory that is lost. Where threads keep no cache of what they free, the C
 # library gives most of it back.
@@ -48,7 +48,7 @@ TOLD = re.compile(r"store (\d+): " + ", ".join(rf"(\d+) {it}" for it in COUNTED)
 
 
 def copied(room, crate):
-    """A copy of a crate."""
+    """Copies a crate."""
     here, there = repository.path("crates", crate), os.path.join(room, "crates", crate)
     for part in "src", "specs", "proofs":
         if os.path.isdir(f"{here}/{part}"):
@@ -56,8 +56,8 @@ def copied(room, crate):
 
 
 def made(room, name, texts, own, kit=()):
-    """The crate of this name and these texts in that folder, with the crates that it stands on;
-    gives its own folder."""
+    """Makes the crate of this name and these texts in that folder, with the crates that it stands
+    on. Returns its own folder."""
     known = repository.crates()
     below = [it for it in repository.lowest_first(known) if it in {*own, *repository.below(own)}]
     for crate in below:
@@ -74,8 +74,8 @@ def made(room, name, texts, own, kit=()):
 
 
 def soaked(checks, program, seconds, seed, file, length, env):
-    """The stores that a program ran for so many seconds from a seed on; what it found wrong is a
-    check that failed."""
+    """Runs stores with a program for `seconds` seconds, from a seed on, and returns them. A fault that
+    the program finds is a check that failed."""
     words = [program, *map(str, (int(seconds), seed, file, *length))]
     process = subprocess.Popen(words, stdin=subprocess.DEVNULL, stdout=subprocess.PIPE,
                                stderr=subprocess.PIPE, text=True, errors="replace",
@@ -101,12 +101,12 @@ def soaked(checks, program, seconds, seed, file, length, env):
 
 
 def counted(found):
-    """All counts of some stores together."""
+    """Returns all counts of some stores together."""
     return collections.Counter({name: sum(getattr(it, name) for it in found) for name in COUNTED})
 
 
 def in_words(found):
-    """What was done with some stores."""
+    """Returns the counts of some stores in words."""
     counts = counted(found)
     return (f"{len(found)} stores, {counts['answered']} calls answered, {counts['refused']} refused, "
             f"{counts['repeated']} updates repeated, "
@@ -117,15 +117,15 @@ def in_words(found):
 
 
 def looked_at(checks, found):
-    """The memory of the process is back after the stores: what they need is a hundred times what
-    may be added."""
+    """Checks that the memory of the process is back after the stores, which need a hundred times
+    what may be added."""
     least = [min(it.kib for it in part) // 1024 for part in (found[:TURN], found[-TURN:])]
     checks.that(least[1] <= least[0] + GROWTH, f"memory grows from store to store, from {least[0]} to "
                 f"{least[1]} MiB: {[it.kib for it in found]} KiB")
 
 
 def tried(checks, seconds):
-    """Both programs, built and run; gives what was counted, and what was tried, in words."""
+    """Builds and runs both programs. Returns the counts, and what was tried, in words."""
     began, seed, folder = time.monotonic(), int(time.time()), tempfile.mkdtemp(prefix="hostile-soak-")
     with tempfile.TemporaryDirectory(prefix="stores-") as room:
         try:

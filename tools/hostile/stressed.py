@@ -18,7 +18,7 @@ LOOPBACK, MANNERS = "three connections over the loopback", 2
 
 
 def tried(checks, program):
-    """All trials, and what was tried, in words."""
+    """Runs all trials, and returns what was tried, in words."""
     try:
         ran = subprocess.run([program, *map(str, SIZES)], stdin=subprocess.DEVNULL, capture_output=True,
                              text=True, timeout=LIMIT)

@@ -22,7 +22,7 @@ CONNECTIONS, PATIENCE = 200, 900
 
 
 def scripts(checks, craq_lab):
-    """Each stored script, with each core; gives how many."""
+    """Plays each stored script with each core. Returns the number of plays."""
     cases = [(name, nodes, script, expected, core) for name, nodes, script, expected in every_stop.stored()
              for core in playing.CORES]
 
@@ -57,7 +57,7 @@ def load(checks, server, seconds):
 
 
 def served(checks, craqd, seconds):
-    """A server under load; gives how many asks there were."""
+    """Puts a server under load. Returns the number of asks."""
     with tempfile.NamedTemporaryFile("w", suffix=".sh", delete=False) as it:
         it.write(f'#!/bin/sh\nexec {" ".join(WORDS)} {craqd} "$@"\n')
     os.chmod(it.name, 0o700)
@@ -73,7 +73,7 @@ def served(checks, craqd, seconds):
 
 
 def tried(checks, craq_lab, craqd, seconds=60):
-    """Both, and what was tried, in words."""
+    """Runs both parts, and returns what was tried, in words."""
     if not shutil.which(WORDS[0]):
         return "left out: valgrind is not installed"
     played = scripts(checks, craq_lab)

@@ -59,7 +59,7 @@ while True:
 
 
 class Copy:
-    """A copy of the tools and of one crate, with stubs in the place of programs."""
+    """A copy of the tools and of one crate, with stubs instead of programs."""
 
     def __init__(self, room):
         self.top = os.path.join(room, "copy")
@@ -77,7 +77,7 @@ class Copy:
         return os.path.join(self.top, *parts)
 
     def changed(self, name, old, new):
-        """A text of a file, which stands there once, is another one."""
+        """Replaces a text of a file that stands there once."""
         with open(self.path(name), "rb") as it:
             text = it.read()
         if text.count(old) != 1:
@@ -86,7 +86,7 @@ class Copy:
             it.write(text.replace(old, new))
 
     def stub(self, name, text, **given):
-        """A program in the place of another."""
+        """Writes a program that replaces another."""
         stub = self.path("stubs", name)
         os.makedirs(os.path.dirname(stub), exist_ok=True)
         with open(stub, "w", encoding="utf-8") as it:
@@ -95,7 +95,7 @@ class Copy:
         return stub
 
     def part(self, module, function, *given):
-        """How many checks of a part passed and failed, and what it told."""
+        """Returns how many checks of a part passed and failed, and what it printed."""
         path = PATH.replace(repository.TOP, self.top)
         ran = subprocess.run([sys.executable, "-B", "-c", PART, module, function, *given], cwd=self.top,
                              env={**os.environ, "PYTHONPATH": path}, stdin=subprocess.DEVNULL,

@@ -8,7 +8,8 @@ SCHEDULES, SCRIPTS, RECOVERIES = 40, 40, 10
 
 
 def plays(checks, program):
-    """What the program prints of all these; not optimized and beside others it is slow."""
+    """Plays all these and checks the output. The program is not optimized and runs beside others, so it
+    is slow."""
     playing.PATIENCE = tries.SECONDS
     for what, part, *given in (
             ("worked scripts", worked.scripts), ("texts that are no scripts",

@@ -4,7 +4,7 @@ import re
 import shutil
 import subprocess
 
-from tools import repository, mutants
+from tools import repository
 
 PARTS = ("src", "specs", "proofs")
 ENDINGS = {"src": ".rt", "specs": ".antt", "proofs": ".antt", "must-fail": ".edit", "wrong": ".edit"}
@@ -69,7 +69,8 @@ def listed(checks, name, part):
 
 
 def fault_of(name, edit):
-    """Why an edit cannot be applied, or None: each text after 'old: ' has to stand once in its file."""
+    """Returns why an edit cannot be applied, or None: each text after 'old: ' has to stand once in
+    its file."""
     file, texts, old, pairs = None, {}, None, 0
     for line in repository.text_of(edit).splitlines():
         word, _, rest = line.partition(":")
@@ -89,16 +90,12 @@ def fault_of(name, edit):
 
 
 def edits(checks):
-    """Each edit can be applied, and docs/proof/MUTANTS.md names those that there are."""
+    """Each edit can be applied."""
     for name in repository.crates():
         for folder in "must-fail", "wrong":
             for edit in repository.edits_in(name, folder):
                 fault = fault_of(name, repository.path("crates", name, folder, f"{edit}.edit"))
                 checks.that(not fault, f"crates/{name}/{folder}/{edit}.edit: {fault}")
-    checks.same("edits of wrong/ that docs/proof/MUTANTS.md lacks, or has too many (./refuse --write "
-                "NAME)", mutants.unlike(), [])
-    checks.same("edits that docs/proof/MUTANTS.md names and that are not there", mutants.strange(),
-                [])
 
 
 def formatted(checks, room):
@@ -118,7 +115,7 @@ def formatted(checks, room):
 
 
 def changed(name, there):
-    """The files that differ in a copy of a crate."""
+    """Returns the files that differ in a copy of a crate."""
     found = []
     for at, _, files in os.walk(there):
         for file in files:

@@ -9,8 +9,8 @@ from tools import repository, unproved
 
 # Those that run longer than it takes to optimize them.
 OPTIMIZED = ("craq_part_tests",)
-# Those of changed sources: of which crate, and what stands in which file of crates/ in the place of
-# what. One makes fewer calls, the other audits that do not fit.
+# Programs of changed sources: the crate, and its changes: a file of crates/, a text in it, and the text
+# that replaces it. One makes fewer calls, the other audits that do not fit.
 CHANGED = {
     "craq_thread_tests": ("craq_thread_tests",
                           [("craq_thread_tests/src/changes.rt", "const CALLS: u64 = 2500;",
@@ -55,7 +55,8 @@ class Programs:
         self.locks = {name: threading.Lock() for name in {*repository.crates(), *CHANGED}}
 
     def of(self, checks, name):
-        """The path of a program, or None where it cannot be built, which is a check that failed, once."""
+        """Returns the path of a program, or None if it cannot be built, which is a check that
+        failed, once."""
         path = os.path.join(self.folder, name)
         with self.locks[name]:
             if not os.path.exists(path) and name not in self.lacking:
@@ -67,6 +68,6 @@ class Programs:
         return None if name in self.lacking else path
 
     def all_of(self, checks, *names):
-        """The paths of some programs, or None where one of them cannot be built."""
+        """Returns the paths of some programs, or None if one of them cannot be built."""
         found = [self.of(checks, name) for name in names]
         return None if None in found else found

@@ -1,16 +1,18 @@
 """craqd and craq without their proofs, from end to end: a server, commands and clients. What looks
 at a clock or at the memory of a server is left to tools/end_to_end/run, since other programs run
 beside these."""
-from tools.end_to_end import bad_input, clients, commands, running
+from tools.end_to_end import bad_input, clients, commands, control, human, running
 from tools.sockets import free_port
 
 CONNECTIONS = 1_600
-# How many seconds an answer may take where others run beside.
+# Seconds that a reply may take while other checks run.
 PATIENCE = 120
+# Number of times that a node is replaced while clients go on.
+ROUNDS = 10
 
 
 def answers(checks, craqd):
-    """Whether a server answers a first question."""
+    """Checks whether a server answers a first request."""
     server = running.Server(craqd, running.PLAN, 2)
     try:
         with server.connect() as made:
@@ -26,7 +28,7 @@ def answers(checks, craqd):
 
 
 def asked(checks, server, craq):
-    """All that is asked of one server, and then its audit."""
+    """Runs all checks of one server, and then its audit."""
     checks.part("craq", commands.rows, server, craq)
     for version in 1, 2:
         for chain in 0, 1:
@@ -44,7 +46,7 @@ def asked(checks, server, craq):
 
 
 def serves(checks, craqd, craq):
-    """The helps, command lines, and a server; one that does not answer is asked no more."""
+    """Checks the helps, command lines, and a server; one that does not answer is asked no more."""
     if not answers(checks, craqd):
         return "a server that does not answer"
     running.PATIENCE, nowhere = PATIENCE, f"127.0.0.1:{free_port()}"
@@ -52,6 +54,8 @@ def serves(checks, craqd, craq):
     checks.part("help", commands.helps, craq, craqd)
     checks.part("command lines", commands.no_commands, craq, nowhere)
     checks.part("no server", commands.no_server, craq, nowhere)
+    control.tried(checks, craqd, ROUNDS)
+    checks.part("verbs for people", human.all_of, craqd, craq, nowhere)
     server = running.Server(craqd, running.PLAN, CONNECTIONS)
     try:
         return checks.part("a server", asked, server, craq)

@@ -86,11 +86,11 @@ class Clone:
         os.chmod(file, os.stat(file).st_mode | stat.S_IXUSR)
 
     def rt_does(self, command, text):
-        """What the stub does at this command of rt, as bash; it gets all words."""
+        """Sets, as bash, what the stub does at this command of rt; the text gets all words."""
         self.write(os.path.join(self.bin, f"do-{command}"), text)
 
     def words(self):
-        """What the stub was asked since the last look: a line each, with the folder in front."""
+        """Returns the commands that the stub got since the last call, a line each after its folder."""
         file = os.path.join(self.bin, "words")
         try:
             with open(file, encoding="utf-8") as it:
@@ -101,29 +101,29 @@ class Clone:
         return found
 
     def builds_unproved(self, text):
-        """What tools/unproved.py makes: a program of this bash text, or none where it is empty."""
+        """Sets the program that tools/unproved.py makes: one of this bash text, or none if it is empty."""
         self.write("tools/unproved.py", BUILDS.format(words=os.path.join(self.bin, "words"), text=text))
 
     def built(self, name, text):
-        """A program that ./build would have made of the present sources."""
+        """Makes a program that ./build would have made of the present sources."""
         self.executable(os.path.join(self.top, f"crates/{name}/out/{name}"), "#!/usr/bin/env bash\n" + text)
         sum_of = subprocess.run(["tools/sources", "."], cwd=self.top, check=True, capture_output=True,
                                 text=True).stdout
         self.write(f"crates/{name}/out/{name}.of", sum_of)
 
-    def started(self, *words, has_rt=True, alone=False):
+    def started(self, *words, has_rt=True, alone=False, given=subprocess.DEVNULL):
         """A script that runs, from another folder than its own; alone: in a group of processes of
         its own. SIGINT is ignored in what a shell runs in the background, and bash cannot trap what
         was ignored before it began."""
         path = (self.bin + ":" if has_rt else "") + "/usr/bin:/bin"
         return subprocess.Popen([os.path.join(self.top, words[0]), *words[1:]], cwd=self.bin,
                                 env={**os.environ, "PATH": path},
-                                stdin=subprocess.DEVNULL, stdout=subprocess.PIPE, stderr=subprocess.PIPE,
+                                stdin=given, stdout=subprocess.PIPE, stderr=subprocess.PIPE,
                                 text=True, start_new_session=alone,
                                 preexec_fn=lambda: signal.signal(signal.SIGINT, signal.SIG_DFL))
 
     def ran(self, *words, has_rt=True):
-        """The status of a script, and what it printed."""
+        """Runs a script, and returns its status and its output."""
         it = self.started(*words, has_rt=has_rt)
         out, err = it.communicate(timeout=PATIENCE)
         return it.returncode, out, err
@@ -137,12 +137,12 @@ def has_no_rt(checks, clone):
 
 
 def loops():
-    """How many event loops ./serve asks for."""
+    """Returns the number of event loops that ./serve asks for."""
     return max(1, len(os.sched_getaffinity(0)) // 2)
 
 
 def told(clone, connect="--connect 127.0.0.1:7123 "):
-    """The commands that ./serve prints while no craq is built."""
+    """Returns the commands that ./serve prints while no craq is built."""
     python = f"  python3 {clone.top}/clients/python/jilsdau {connect}"
     return ["Ask it from another terminal, as by:",
             *(python + it for it in ("set colour blue", "get colour", "health"))]
@@ -224,7 +224,7 @@ def serve_proved(checks, clone):
     checks.same("commands at the default address", out.splitlines()[1:], told(clone, ""))
     clone.built("craq", "exit 0\n")
     _, out, _ = clone.ran("serve", plan)
-    checks.that("crates/craq/out/craq --connect 127.0.0.1:7000 --node 1 read strong colour" in out,
+    checks.that("crates/craq/out/craq set colour blue\n" in out,
                 f"it tells of craq once that is built: {out}")
     status, out, _ = clone.ran("serve", "--help")
     checks.that(status == 0 and out.startswith("Serves a store") and "OPTION" in out, f"its help: {out}")
@@ -236,6 +236,20 @@ def serve_proved(checks, clone):
     checks.same("after a change of the sources", clone.ran("serve")[0], 1)
     checks.that(clone.words() != [], "it builds after a change of the sources")
     clone.write(source, "//! A program.\n")
+
+
+def serve_control(checks, clone):
+    """./serve --control passes lines on to the server, whose end in order is a signal's as ever."""
+    clone.built("craqd", 'echo "listening 7123"; while read -r line; do echo "got $line"; done; exit 3\n')
+    it = clone.started("serve", "--control", alone=True, given=subprocess.PIPE)
+    it.stdin.write("stop a/1\nremove a/1\n")
+    it.stdin.flush()
+    lines = [it.stdout.readline().rstrip("\n") for _ in range(7)]
+    checks.same("what ./serve passes on", sorted(lines),
+                sorted(["listening 7123", "got stop a/1", "got remove a/1", *told(clone)]))
+    it.terminate()
+    out, _ = it.communicate(timeout=PATIENCE)
+    checks.same("./serve --control at its end", (out, it.returncode), ("", 3))
 
 
 def serve_ends(checks, clone):
@@ -468,7 +482,7 @@ def test_without_cc(checks, clone):
 
 def main():
     checks = Checks("top")
-    serving = has_no_rt, serve_unproved, serve_build_ended, serve_proved, serve_ends
+    serving = has_no_rt, serve_unproved, serve_build_ended, serve_proved, serve_control, serve_ends
     for part in *serving, play, build, plant, refuse, release, hostile, test:
         with tempfile.TemporaryDirectory(prefix="top-") as room:
             checks.part(part.__doc__, part, Clone(os.path.realpath(room)))

@@ -7,11 +7,11 @@ import tempfile
 
 from tools import repository
 
-# What a program may take, also where many others run.
+# Seconds that a program may take, also where many others run.
 SECONDS = 900
-# The tests on threads are smaller here: the words that the program is given, and what then stands
-# three times in the place of what in its file stdout. The calls of one case are fewer as it is
-# built (programs.py).
+# The tests on threads are smaller here: the words of the program, and each text of its file stdout with
+# the one that then replaces it, three times. The calls of one case are fewer as it is built
+# (programs.py).
 SMALLER = {
     "craq_thread_tests": (
         ["20", "2", "200"],
@@ -23,7 +23,7 @@ SMALLER = {
 
 
 def passes(checks, *words):
-    """A script of the repository ends well; gives its last line."""
+    """Checks that a script of the repository ends well, and returns its last line."""
     ran = subprocess.run(words, stdin=subprocess.DEVNULL, stdout=subprocess.PIPE, stderr=subprocess.STDOUT,
                          text=True, errors="replace")
     checks.that(ran.returncode == 0, f"{' '.join(words)}: {ran.stdout[-3000:]}")
@@ -44,14 +44,14 @@ def ran(name, program, words):
 
 
 def unlike(found, wanted):
-    """The lines of two texts that differ, as difflib tells them."""
+    """Returns the lines of two texts that differ, as difflib prints them."""
     texts = [it.decode(errors="replace").splitlines() for it in (wanted, found)]
     return [it for it in difflib.ndiff(*texts) if not it.startswith("  ")]
 
 
 def prints_its_file(checks, name, program):
-    """A program prints what its file stdout has, given the words of its file args; or less, where
-    it is smaller here."""
+    """Checks that a program prints what its file stdout has, given the words of its file args; or
+    less, where it is smaller here."""
     wanted = repository.file_of(name, "stdout")
     words, fewer = SMALLER.get(name, (repository.file_of(name, "args").decode().splitlines(), {}))
     for many, few in fewer.items():

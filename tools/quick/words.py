@@ -4,6 +4,7 @@ import re
 from tools import repository
 
 LIST = "tools/quick/words.txt"
+HISTORY = "docs/develop/CHANGELOG.md"
 PAGE = "docs/develop/ARCHITECTURE.md"
 CRATE = re.compile(r"\bcraq_[a-z_]*[a-z]\b")
 # Crates that stand elsewhere than under crates/, and what is no crate.
@@ -39,9 +40,12 @@ def unwanted(checks):
 
 
 def names_of_crates(checks):
-    """What the documents and tools name as a crate is one, and the page of the architecture names each."""
+    """The documents and tools name only crates that exist, and the page of the architecture names each.
+    The changelog tells of crates of its time, so it is left out."""
     known = set(repository.crates())
     for name, text in texts():
+        if name == HISTORY:
+            continue
         if name.endswith(".md") or name.startswith("tools/") or name == "crates.txt":
             strange = {it for it in CRATE.findall(text) if it not in known and not OTHER_NAMES.fullmatch(it)}
             checks.same(f"{name}: names that are no crates", sorted(strange), [])

@@ -24,8 +24,8 @@ NEVER_SENT = "deliver 18446744073709551615"
 
 
 def steps(program, words, script):
-    """What `play` prints of each line of a script that is none of a comment, `explain` or empty,
-    with the line; and the last explanation."""
+    """Returns each line of a script with what `play` prints of it, and the last explanation. Comments,
+    `explain` and empty lines are left out."""
     lines = [it for it in script.decode().splitlines() if it and not it.startswith("#") and it != "explain"]
     text = "".join(f"{line}\n{NEVER_SENT}\n" for line in lines) + "explain\n"
     told = playing.told(program, [it for it in words if it != worked.SCRIPT], text.encode())
@@ -41,7 +41,7 @@ def steps(program, words, script):
 
 
 def wanted_in(program, words, script):
-    """How often each kind of shape has to stand in the picture of a script, and the numbers of
+    """Returns how often each kind of shape has to stand in the picture of a script, and the numbers of
     updates committed after its moves."""
     taken, explanation = steps(program, words, script)
     count, sent, arrived = collections.Counter(), 0, set()
@@ -62,7 +62,7 @@ def wanted_in(program, words, script):
 
 
 def shown_in(picture):
-    """How often each kind of shape stands in a picture, and the numbers at its side."""
+    """Returns how often each kind of shape stands in a picture, and the numbers at its side."""
     classes = [(it.get("class"), it) for it in xml.fromstring(picture).iter()
                if it.tag in (SVG + "path", SVG + "circle", SVG + "text")]
     kinds = {"move", "halt", "ignored", "message", "answer", "dot", "label", "lost"}
@@ -73,7 +73,7 @@ def shown_in(picture):
 
 
 def reasons(program, words, script):
-    """Why messages were ignored, in order, as the picture and as `play` tell it."""
+    """Returns the reasons for which messages were ignored, sorted, as `play` prints them."""
     taken, _ = steps(program, words, script)
     return sorted(it[0].split()[1] for _, it in taken if it[0].startswith("ignored"))
 
@@ -141,7 +141,7 @@ NO_EXPLANATIONS = [
 
 
 def checked(program, words, file, text):
-    """What `check` tells of the text of an explanation."""
+    """Returns what `check` prints of the text of an explanation."""
     with tempfile.TemporaryDirectory() as folder:
         with open(os.path.join(folder, "claimed"), "wb") as it:
             it.write(text)

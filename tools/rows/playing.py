@@ -9,7 +9,7 @@ CORES = ("plain", "list")
 
 
 class Told(NamedTuple):
-    """What a program told, and how it ended."""
+    """The output of a program, and its status."""
 
     status: int
     output: bytes
@@ -24,16 +24,16 @@ def told(program, words, script):
 
 
 def with_core(words, core):
-    """The words of a command of craq_lab with this core; None says nothing of cores."""
+    """Returns the words of a command of craq_lab with this core; None names no core."""
     return [words[0], *(["--core", core] if core else []), *words[1:]]
 
 
 def on_both(program, words, script):
-    """What the two cores tell of a script."""
+    """Returns what the two cores print of a script."""
     return [told(program, with_core(words, core), script) for core in CORES]
 
 
 def side_by_side(run, items):
-    """What the call gives of each item, in order."""
+    """Returns the results of the call for the items, in order."""
     with ThreadPoolExecutor(len(os.sched_getaffinity(0))) as pool:
         return list(pool.map(run, items))

@@ -4,7 +4,7 @@
 
 A round is what craq_recovery says: the master ticks, each member ticks, and then, in each of two
 hops, the messages arrive that were sent since the last time, in order. What the last hop brings
-about is lost. So many rounds follow each script: two more than twice as many as it leaves members.
+about is lost. After each script that leaves N members come 2 N + 2 rounds.
 Each member has to serve then, and both cores have to print the same.
 
 Played are the scripts of recoveries/, or those of them that are named. After some of them the
@@ -26,16 +26,17 @@ HERE = os.path.dirname(os.path.realpath(__file__))
 
 HOPS = 2
 SCRIPTS = 400
-# What is asked once the rounds are over: an update of a number that no script gives, and a read at
+# The last asks, once the rounds are over: an update of a number that no script gives, and a read at
 # each member.
 LAST = "put {} 0 1000000 k0 recovered"
-# Of so many scripts at least half have a ready member left, and of these a fifth has one that is not ready.
+# At least 1 in LEFT scripts has to leave a ready member, and of these 1 in UNREADY also a member that
+# is not ready.
 LEFT, UNREADY = 2, 10
 
 
 class Machine(NamedTuple):
-    """What a machine leaves out: what its ticks don't send, what none of its steps sends, and
-    whether its master ticks."""
+    """A wrong machine, by what it leaves out: the messages that its ticks do not send, those that none
+    of its steps sends, and the ticks of its master."""
 
     name: str
     at_ticks: tuple = ()
@@ -91,12 +92,12 @@ class Ended(NamedTuple):
 
 
 def messages(output):
-    """The receiver and the kind of each message, in the order of sending."""
+    """Returns the receiver and the kind of each message, in the order of sending."""
     return [(int(to), kind.decode()) for to, kind in re.findall(rb"^m\d+ \d+>(\d+) (\w+)", output, re.M)]
 
 
 def answers(output, node):
-    """The tickets that this node answered, and what it answered last."""
+    """Returns the tickets that this node answered, and its last answer."""
     found = re.findall(rb"^answer %d (\d+) (.*)$" % node, output, re.M)
     return {int(it) for it, _ in found}, found[-1] if found else None
 
@@ -116,14 +117,14 @@ class Rounds:
         return playing.told(self.program, self.words, self.text).output
 
     def ready(self):
-        """How many members take a read: those that are ready."""
+        """Returns how many members take a read: those that are ready."""
         before = self.output().count(b"\nanswer")
         self.lines += [f"read {it} eventual k0" for it in self.members]
         return self.output().count(b"\nanswer") - before
 
     def hop(self, first, unsent=()):
-        """The messages from this number on arrive, but none at a node that stopped. The number of
-        the next one."""
+        """Delivers the messages from this number on, but none at a node that stopped. Returns the
+        number of the next one."""
         sent = messages(self.output())
         for at, (to, kind) in enumerate(sent[first - 1 :], first):
             if to in self.members and kind not in (*unsent, *self.machine.ever):
@@ -138,7 +139,8 @@ class Rounds:
             first = self.hop(first)
 
     def last_asks(self):
-        """An update that needs no tick, and then a read at each member."""
+        """Adds the last asks: an update, with the hops that it needs, and then a read at each
+        member."""
         first = len(messages(self.output())) + 1
         self.lines.append(LAST.format(self.members[0]))
         for _ in range(2 * len(self.members) + 2):
@@ -147,7 +149,7 @@ class Rounds:
 
 
 def ended(it):
-    """The script with the rounds that its members need."""
+    """Returns the script with the rounds that its members need."""
     ready, rounds = it.ready(), 2 * len(it.members) + 2
     for _ in range(rounds):
         it.round()
@@ -159,7 +161,7 @@ def ended(it):
 
 
 def recovered(program, kind, seed):
-    """The script of this seed with such rounds; None where no member is ready."""
+    """Returns the script of this seed with such rounds, or None if no member is ready."""
     script, words = scripts.Script(kind, seed), ["play", "--nodes", str(kind.nodes)]
     for _ in range(random.Random(seed).randint(2, scripts.ROUNDS)):
         script.see(playing.told(program, words, script.text).output)
@@ -171,8 +173,8 @@ def recovered(program, kind, seed):
 
 
 def read_last(output, members):
-    """What each member answered to its last ask, a read; None where one refused it, or an ask
-    before it waits."""
+    """Returns the reply of each member to its last ask, a read; None if a member refused it, or an
+    earlier ask waits."""
     seen = []
     for node in members:
         tickets, last = answers(output, node)
@@ -183,8 +185,8 @@ def read_last(output, members):
 
 
 def is_served(it):
-    """After the rounds each member takes asks and none waits; and then each one reads what was
-    written last."""
+    """Returns whether, after the rounds, each member takes asks and none waits, and whether each
+    one then reads what was written last."""
     if read_last(it.quiet, it.members) is None:
         return False
     seen = {*(read_last(it.outputs[0], it.members) or [])}
@@ -207,7 +209,7 @@ def worked_recoveries(checks, program, names=()):
 
 
 def random_recoveries(checks, program, count):
-    """So many scripts with rounds: both cores print the same, and each member serves in the end,
+    """Plays `count` scripts with rounds: both cores print the same, and each member serves in the end,
     with nothing left to answer."""
     cases = [(scripts.KINDS[seed % len(scripts.KINDS)], seed) for seed in range(count)]
     ended = [it for it in playing.side_by_side(lambda it: recovered(program, *it), cases)]

@@ -14,8 +14,8 @@ CUT = re.compile(rb"cut (\d+) committed \d+ valid true\n")
 
 
 def choices_of(seed, count=CHOICES):
-    """So many choices of a seed: the upper bits of the numbers of a linear congruential generator
-    (that of ANSI C's example of rand)."""
+    """Returns `count` choices of a seed: the upper bits of the numbers of a linear congruential
+    generator (that of ANSI C's example of rand)."""
     x, found = seed, []
     for _ in range(count):
         x = (1103515245 * x + 12345) % 2**31
@@ -28,7 +28,7 @@ def nodes_of_seed(seed):
 
 
 def drawn(checks, program, count):
-    """So many schedules of one script: both cores print the same, and the verdict is true."""
+    """Draws `count` schedules of one script: both cores print the same, and the verdict is true."""
     script = worked.bytes_of("drawn.script")
     seeds = range(1, count + 1)
 
@@ -49,7 +49,7 @@ def nodes_of(words):
 
 
 def is_cut_by_cut(output):
-    """Whether each line is that of the next cut, from 0 on, with a true verdict."""
+    """Returns whether each line is that of the next cut, from 0 on, with a true verdict."""
     found = [int(it[1]) for it in CUT.finditer(output)]
     return found == list(range(output.count(b"\n"))) and b"cut 0 " in output
 

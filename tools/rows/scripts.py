@@ -10,22 +10,22 @@ from typing import NamedTuple
 from tools.rows import playing
 
 VALUES = ("0x", "a", "bc", "0x0000000000000007", "0xff00")
-# What has to come up in random scripts, all of them together.
+# Words that the random scripts have to produce, all of them together.
 KINDS_SENT = ["ack", "batch", "blank", "config", "copy", "entry", "floor", "part", "query", "version"]
 REASONS = ["AlreadyHave", "NotReadyHere", "OtherEpoch", "OutOfOrder", "UnknownTicket"]
 MOST_MEMBERS = 5
 ROUNDS, LINES = 12, 20
-# How many asks of a script are answered at least, on average.
+# Number of asks of a script that are answered at least, on average.
 ANSWERS = 40
 
 
 class Kind(NamedTuple):
-    """How scripts are chosen."""
+    """Numbers by which scripts are drawn."""
 
     nodes: int
     objects: int
     clients: int
-    # How many objects are written before anything else: a state of more than 64 is sent in parts.
+    # Number of objects written before anything else: a state of more than 64 is sent in parts.
     written: int
 
 
@@ -40,7 +40,7 @@ class Script:
         self.lines, self.asked = [], 0
         self.members, self.stopped = list(range(1, kind.nodes + 1)), None
         self.ids = kind.nodes
-        # How many messages were sent as far as is known, and the next one to arrive in its turn.
+        # The number of messages that were sent as far as is known, and the next one to arrive in its turn.
         self.sent, self.next = 0, 1
         for at in range(kind.written):
             self.lines.append(f"put 1 {at % kind.clients} {at // kind.clients + 1} k{at} a")
@@ -50,7 +50,7 @@ class Script:
         return "".join(f"{it}\n" for it in self.lines).encode()
 
     def node(self):
-        """A node that the chain may have had."""
+        """Draws a node that the chain may have had."""
         if self.draw.random() < 0.9:
             return self.draw.choice(self.members)
         return self.draw.randint(1, self.ids + 1)
@@ -62,17 +62,17 @@ class Script:
         return self.draw.choice(VALUES)
 
     def objects(self, most):
-        """Up to so many objects, none twice."""
+        """Draws at most `most` objects, none twice."""
         return list(dict.fromkeys(self.object() for _ in range(self.draw.randint(0, most))))
 
     def mini(self):
-        """A transaction that compares, reads and writes a few objects."""
+        """Draws a transaction that compares, reads and writes a few objects."""
         items = [f"c:{it}:{self.draw.randint(0, 3)}" for it in self.objects(1)]
         items += [f"r:{it}" for it in self.objects(2)] + [f"w:{it}:{self.value()}" for it in self.objects(2)]
         return " ".join(items or ["w:k0:a"])
 
     def update(self):
-        """An update, at the head as a rule. Later ones have higher numbers as a rule."""
+        """Draws an update, at the head as a rule. Later ones have higher numbers as a rule."""
         node = self.members[0] if self.draw.random() < 0.9 else self.node()
         number = max(1, self.asked // self.kind.clients + self.draw.randint(-2, 4)
                      + self.kind.written // self.kind.clients)
@@ -93,7 +93,8 @@ class Script:
         return f"tick {self.node() if self.draw.randrange(6) else 0}"
 
     def delivery(self):
-        """A message arrives in its turn, of which some are left out, or another one does."""
+        """Draws the next delivery: a message in its turn, of which some are left out, or another
+        one."""
         pick = self.draw.randrange(12)
         if pick == 0:
             return f"deliver {self.draw.randint(0, self.sent + 1)}"
@@ -104,7 +105,7 @@ class Script:
         return f"deliver {self.next - 1}"
 
     def removal(self):
-        """A node stops, or the one that did is removed; where few are left a tick comes instead."""
+        """Draws a stop, or a removal of the node that stopped; a tick if few are left."""
         if self.stopped is not None:
             node, self.stopped = self.stopped, None
             self.members.remove(node)
@@ -115,7 +116,7 @@ class Script:
         return f"stop {self.stopped}"
 
     def join(self):
-        """A node joins whose id is the next, or was used."""
+        """Draws a join of a node whose id is the next, or was used."""
         if len(self.members) >= MOST_MEMBERS:
             return self.tick()
         if self.draw.randrange(5) == 0:
@@ -136,12 +137,12 @@ class Script:
         self.lines += [self.line() for _ in range(LINES)]
 
     def see(self, output):
-        """What the lines so far have printed."""
+        """Notes how many messages were sent, by the output of the lines so far."""
         self.sent = output.count(b"\nm") + output.startswith(b"m")
 
 
 def played(program, kind, seed):
-    """The script of this seed, and what either core tells of it."""
+    """Returns the script of this seed, and what either core prints of it."""
     script, words = Script(kind, seed), ["play", "--nodes", str(kind.nodes)]
     for _ in range(ROUNDS):
         script.see(playing.told(program, words, script.text).output)
@@ -151,15 +152,15 @@ def played(program, kind, seed):
 
 
 def sights(outputs):
-    """The kinds of messages that were sent, and the reasons for which one was ignored."""
+    """Returns the kinds of messages that were sent, and the reasons for which one was ignored."""
     text = b"\n".join(outputs)
     kinds = {it.decode() for it in re.findall(rb"^m\d+ \d+>\d+ (\w+)", text, re.M)}
     return sorted(kinds), sorted({it.decode() for it in re.findall(rb"^ignored (\w+)", text, re.M)})
 
 
 def random_scripts(checks, program, count):
-    """So many scripts: both cores print the same. In all of them each kind of message is sent, and
-    asks are answered."""
+    """Plays `count` scripts: both cores print the same. In all of them each kind of message is sent,
+    and asks are answered."""
     cases = [(KINDS[seed % len(KINDS)], seed) for seed in range(count)]
     outputs = []
     plays = playing.side_by_side(lambda it: played(program, *it), cases)

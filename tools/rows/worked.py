@@ -20,7 +20,7 @@ def bytes_of(name):
 
 
 def rows():
-    """The name of each worked script, the words of craq_lab with SCRIPT in the place of the file,
+    """Returns the name of each worked script, the words of craq_lab with SCRIPT instead of the file,
     its text and what it prints."""
     found = []
     for line in bytes_of("worked.txt").decode().splitlines():
@@ -63,8 +63,8 @@ def bad_texts():
 
 
 def no_scripts(checks, program):
-    """A text that is no script is not played: its first bad line is told. The script of each form
-    of line is one."""
+    """A text that is no script is not played: its first bad line is printed. The script of each
+    form of line is one."""
     texts = bad_texts()
     for (text, line), pair in zip(texts,
                                   playing.side_by_side(lambda it: playing.on_both(program, ["play"], it[0]),

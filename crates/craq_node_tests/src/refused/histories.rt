@@ -2,11 +2,10 @@
 use super::teller::Teller;
 use craq_compact_history::ListCore;
 use craq_history::History;
-use craq_node::Core;
 use craq_play::PlainCore;
 
 /// A node that tells how its history keeps entries.
-pub trait Kept: Core {
+pub trait Kept {
     /// Returns the number of entries that the history represents.
     fn entries(&self) -> u64;
 

@@ -73,7 +73,7 @@ fn tell_step(teller: Teller, step: &Result<Step, Refusal>, wanted: &Step) {
 
 /// Takes the step of an event on a node. Prints what it did to the node's history, unless the step
 /// takes no memory.
-fn step<C: Kept>(teller: Teller, node: &mut C, record: &Record<Event>) {
+fn step<C: Core + Kept>(teller: Teller, node: &mut C, record: &Record<Event>) {
     let call = call_of(record);
     for _ in 0..TRIES {
         if let Ok(event) = arriving(teller.alloc, &record.event) {
@@ -96,7 +96,7 @@ fn step<C: Kept>(teller: Teller, node: &mut C, record: &Record<Event>) {
 }
 
 /// Takes the steps of this journaled node on a new node; each must equal the recorded step.
-fn step_again<C: Kept>(teller: Teller, cell: &Cell<C>) -> Result<(), Refusal> {
+fn step_again<C: Core + Kept>(teller: Teller, cell: &Cell<C>) -> Result<(), Refusal> {
     let opening = cell.opening();
     if !can_open(opening) {
         return Err(Refusal::UsedId);
@@ -169,7 +169,7 @@ fn take_again<C: Core>(teller: Teller, cell: &Cell<C>) -> Result<(), Refusal> {
 }
 
 /// Replays the steps of each node on a new node, or on a new pending-call table.
-pub fn play<C: Kept, R: Wait>(
+pub fn play<C: Core + Kept, R: Wait>(
     rt: &R,
     teller: Teller,
     row: &Row,

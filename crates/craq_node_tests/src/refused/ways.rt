@@ -4,6 +4,7 @@ use super::rows::Row;
 use super::teller::Teller;
 use super::{audits, connections, messages, steps, stores, worlds};
 use craq_names::Refusal;
+use craq_node::Core;
 use std::sync::Wait;
 use std::thread::Threads;
 
@@ -54,7 +55,7 @@ pub const WAYS: [(Way, &str); 11] = [
 /// Plays a script in one mode, and prints the results of the calls.
 pub fn play<C, R>(rt: R, teller: Teller, way: Way, row: &Row) -> Result<(), Refusal>
 where
-    C: Kept + Send + 'static,
+    C: Core + Kept + Send + 'static,
     R: Threads + Wait + Copy + Send + 'static,
 {
     match way {

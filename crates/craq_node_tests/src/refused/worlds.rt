@@ -10,7 +10,7 @@ use craq_world::{Report, World};
 use std::alloc::AllocError;
 
 /// Returns the entries of the chain's nodes.
-fn entries_of<C: Kept>(world: &World<C>) -> Entries {
+fn entries_of<C: Core + Kept>(world: &World<C>) -> Entries {
     match world.chain(chain()) {
         Ok(seen) => entries_in(seen.cores()),
         Err(_) => entries_in::<C>(&[]),
@@ -18,7 +18,7 @@ fn entries_of<C: Kept>(world: &World<C>) -> Entries {
 }
 
 /// Takes a move of the chain. Prints what it did to the histories of the nodes.
-fn take<C: Kept>(teller: Teller, world: &mut World<C>, chosen: &Move) {
+fn take<C: Core + Kept>(teller: Teller, world: &mut World<C>, chosen: &Move) {
     for _ in 0..TRIES {
         if let Ok(copy) = chosen.copied(teller.alloc) {
             let before = entries_of(world);
@@ -54,7 +54,7 @@ fn tell<C: Core>(teller: Teller, world: &World<C>) {
 }
 
 /// Plays the moves one by one.
-pub fn play<C: Kept>(teller: Teller, row: &Row) -> Result<(), Refusal> {
+pub fn play<C: Core + Kept>(teller: Teller, row: &Row) -> Result<(), Refusal> {
     let mut world: World<C> = row.world(teller.alloc)?;
     for chosen in &row.moves {
         take(teller, &mut world, chosen);

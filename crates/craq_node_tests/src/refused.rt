@@ -31,7 +31,8 @@ fn play_on<R>(rt: R, teller: Teller, word: &str, kind: &str, row: &Row) -> Resul
 where
     R: Threads + Wait + Copy + Send + 'static,
 {
-    for (way, named) in WAYS {
+    for way in WAYS {
+        let named = way.word();
         if word == named || word == "all" {
             let _ = println!(teller.host; "{named}");
             match kind {

@@ -37,20 +37,39 @@ pub enum Way {
     ChainThread,
 }
 
-/// All modes, each with its word.
-pub const WAYS: [(Way, &str); 11] = [
-    (Way::Worlds, "worlds"),
-    (Way::Runs, "runs"),
-    (Way::Steps, "steps"),
-    (Way::Desks, "desks"),
-    (Way::Audits, "audits"),
-    (Way::Decodes, "decodes"),
-    (Way::Payloads, "payloads"),
-    (Way::Plans, "plans"),
-    (Way::Serves, "serves"),
-    (Way::Stores, "stores"),
-    (Way::ChainThread, "carried"),
+/// All modes.
+pub const WAYS: [Way; 11] = [
+    Way::Worlds,
+    Way::Runs,
+    Way::Steps,
+    Way::Desks,
+    Way::Audits,
+    Way::Decodes,
+    Way::Payloads,
+    Way::Plans,
+    Way::Serves,
+    Way::Stores,
+    Way::ChainThread,
 ];
+
+impl Way {
+    /// Returns the word of the mode.
+    pub const fn word(self) -> &'static str {
+        match self {
+            Way::Worlds => "worlds",
+            Way::Runs => "runs",
+            Way::Steps => "steps",
+            Way::Desks => "desks",
+            Way::Audits => "audits",
+            Way::Decodes => "decodes",
+            Way::Payloads => "payloads",
+            Way::Plans => "plans",
+            Way::Serves => "serves",
+            Way::Stores => "stores",
+            Way::ChainThread => "carried",
+        }
+    }
+}
 
 /// Plays a script in one mode, and prints the results of the calls.
 pub fn play<C, R>(rt: R, teller: Teller, way: Way, row: &Row) -> Result<(), Refusal>

@@ -1,2 +1,4 @@
-pub mod Stored
+pub mod Counted
+pub mod Figures
 pub mod Forgotten
+pub mod Stored

@@ -1,7 +1,10 @@
 //! `CompactingHistory`: a `History` over a compacted past and an index of clients' entries. `ListCore` is
 //! a node over it.
-ghost use Rattle.std.specs.Prelude.{◌≡◌, ◌+◌, ◌-◌, ◌≤◌, true, length, take, drop};
+ghost use Rattle.std.specs.Prelude.{◌≡◌, ◌+◌, ◌-◌, ◌≤◌, ◌^◌, T, true, length, min, take, drop};
+ghost use Rattle.std.proofs.Props.{props};
+ghost use Rattle.std.specs.FinMap.Entries.{is_sorted};
 ghost use Rattle.arrayvec.specs.ArrayVec.{array_vec_len};
+ghost use Rattle.craq_names.specs.Maps.{key_cmp};
 ghost use Rattle.craq_commands.specs.Objects.{object_of, version_of};
 ghost use Rattle.craq_commands.specs.SingleCopy.{after_entries, is_new_to, window_of};
 ghost use Rattle.craq_model.specs.Deliveries.{is_applicable};
@@ -12,10 +15,11 @@ ghost use Rattle.craq_compaction.proofs.Pasts.{compacted_twice};
 ghost use Rattle.craq_full_history.specs.Slots.{slots_after, slots_from};
 ghost use Rattle.craq_compact_state.specs.Held.{length_of};
 ghost use Rattle.craq_client_index.specs.Indexed.{Tells};
+ghost use Rattle.craq_compact_history.specs.Counted.{AreWritten, first_writes, new_objects};
 ghost use Rattle.craq_compact_history.specs.Stored.{stored};
 
 use craq_client_index::ClientIndex;
-use craq_commands::{Entry, Kept, RequestStatus, State};
+use craq_commands::{Entry, Kept, RequestStatus, State, Write};
 use craq_compact_state::{HeldPast, Lookup};
 use craq_full_history::lookups::{follows, object_past, object_up_to};
 use craq_full_history::slots::{Slots, add_entries, is_new, said_in, slots_after};
@@ -36,11 +40,15 @@ pub struct CompactingHistory {
     held: HeldPast,
     acknowledged: Seq,
     clients: ClientIndex,
+    objects: u64,
     alloc: Global,
     ghost based: { held.base ≤ acknowledged },
     ghost within: { acknowledged ≤ length_of held },
     ghost reported_from: { clients.from ≡ acknowledged },
     ghost reported: { Tells clients (drop (acknowledged - held.base) held.entries) },
+    ghost counted: { objects ≡ min (length (after_entries held.state held.entries).objects) (2 ^ 64 - 1) },
+    ghost written: { AreWritten (after_entries held.state held.entries).objects } by { Prim.hlevel props },
+    ghost rising: { T (is_sorted key_cmp (after_entries held.state held.entries).objects) } by { Prim.hlevel props },
 }
 
 /// Returns the entries after one position, up to another.
@@ -55,7 +63,38 @@ fn between(held: &HeldPast, from: Seq, to: Seq) -> &[Entry]
     &held.from(from)[..count]
 }
 
+/// Returns how many of these writes make an object: those of version 1. At most 2^64 - 1.
+fn count_first(writes: &[Write]) -> u64
+    ensures { result ≡ min (first_writes writes.now) (2 ^ 64 - 1) }
+{
+    let mut count = 0u64;
+    for write in writes {
+        if write.version.get() == 1 {
+            count = count.saturating_add(1);
+        }
+    }
+    count
+}
+
+/// Returns how many objects these entries make. At most 2^64 - 1.
+fn count_new(entries: &[Entry]) -> u64
+    ensures { result ≡ min (new_objects entries.now) (2 ^ 64 - 1) }
+{
+    let mut count = 0u64;
+    for entry in entries {
+        count = count.saturating_add(count_first(entry.writes.as_slice()));
+    }
+    count
+}
+
 impl CompactingHistory {
+    /// Returns the number of objects after all entries, at most 2^64 - 1. Takes constant time.
+    pub fn objects(&self) -> u64
+        ensures { result ≡ min (length (newest_in (⟦<CompactingHistory as History>⟧.past self.now)).objects) (2 ^ 64 - 1) }
+    {
+        self.objects
+    }
+
     /// Returns the number of entries that only the state represents. No entry at or below this
     /// position is in memory.
     pub fn base(&self) -> Seq
@@ -177,6 +216,7 @@ impl History for CompactingHistory {
             held: HeldPast::new(alloc),
             acknowledged: Seq::new(0),
             clients: ClientIndex::new(alloc, Seq::new(0)),
+            objects: 0,
             alloc,
         }
     }
@@ -243,7 +283,9 @@ impl History for CompactingHistory {
     }
 
     fn append(&mut self, entries: Items<Entry>) -> Result<(), AllocError> {
+        let made = count_new(entries.as_slice());
         self.held.append(entries)?;
+        self.objects = self.objects.saturating_add(made);
         let later = self.held.from(self.clients.to());
         self.clients.add(later);
         Ok(())
@@ -266,8 +308,10 @@ impl History for CompactingHistory {
     }
 
     fn install(&mut self, position: Seq, state: State) -> Result<(), AllocError> {
+        let objects = state.objects.len() as u64;
         self.held = HeldPast::of(self.alloc, position, state)?;
         self.acknowledged = position;
+        self.objects = objects;
         self.clients = ClientIndex::new(self.alloc, position);
         Ok(())
     }

@@ -6,9 +6,11 @@ ghost use Rattle.craq_model.specs.Plain.{Plain};
 ghost use Rattle.craq_node_invariant.specs.Sound.{IsSound};
 ghost use Rattle.craq_compact_history.specs.Forgotten.{DiffersInSettled};
 
+mod figures;
 mod history;
 
 use craq_node::{Core, NodeCore};
+pub use figures::{NodeFigures, figures_of};
 pub use history::CompactingHistory;
 
 /// A node over the compacting past.

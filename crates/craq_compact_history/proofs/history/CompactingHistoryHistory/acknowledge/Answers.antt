@@ -1,7 +1,9 @@
 use Rattle.std.proofs.Common.{◌≡◌, ℕ, ◌+◌, ◌-◌, ◌≤◌, length, drop, refl, ap, ◌∙◌, arith, length-drop}
 use Rattle.std.proofs.lemmas.Result.{on_ok_weaker, on_err_weaker}
+use Rattle.craq_commands.specs.SingleCopy.{after_entries}
 use Rattle.craq_compact_history.specs.Stored.{stored}
 use Rattle.craq_compact_history.proofs.Applies.{all_applied, applied_up_to, holds}
+use Rattle.craq_compact_history.proofs.Counted.{Counts, settled}
 use Rattle.craq_compact_history.proofs.Unsettled.{reported_settled}
 use Rattle.craq_compact_history.proofs.history.CompactingHistoryHistory.acknowledge.Goals as goal
 
@@ -31,9 +33,14 @@ invariant_of-self c =
     let low : c.apply.new.self.base ≤ c.args.position = c.apply.ensures.to in
     let high : c.args.position ≤ c.apply.new.self.base + length c.apply.new.self.entries = omega (arith, rest, reached, low, c.apply.ensures.from) in
     let begin : c.let_go.new.self.from ≡ c.args.position = omega (arith, c.let_go.ensures.from, c.between-first.ensures.count, h.reported_from, later) in
+    let kept : Counts h.objects (after_entries c.apply.new.self.state c.apply.new.self.entries).objects =
+    settled h.objects (c.apply.new.self.base - h.held.base) h.held.state c.apply.new.self.state h.held.entries c.apply.new.self.entries (record { number = h.counted; written = h.written; rising = h.rising }) c.apply.ensures.state c.apply.ensures.entries in
     record {
       based = low;
       within = high;
       reported_from = begin;
       reported = reported_settled h.clients c.let_go.new.self h.held.base h.acknowledged c.args.position c.apply.new.self.base h.held.entries c.between-first.result.now c.apply.new.self.entries h.based later reached c.apply.ensures.from low c.apply.ensures.entries h.reported c.between-first.ensures.entries c.let_go.ensures.tells;
+      counted = kept.number;
+      written = kept.written;
+      rising = kept.rising;
     }

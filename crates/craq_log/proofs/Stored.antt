@@ -1,5 +1,5 @@
 -- The stored form of a suffix as entries are appended and dropped.
-use Rattle.std.proofs.Common.{◌≡◌, ℕ, ◌+◌, ◌-◌, ◌<◌, ◌≤◌, ◌^◌, List, [], ◌∷◌, ◌++◌, length, take, drop, arith, refl, sym, ap, ◌∙◌, subst, length-append, length-drop}
+use Rattle.std.proofs.Common.{◌≡◌, inl, inr, ℕ, ◌+◌, ◌-◌, ◌<◌, ◌≤◌, ◌^◌, List, [], ◌∷◌, ◌++◌, length, take, drop, arith, refl, sym, ap, ◌∙◌, subst, length-append, length-drop}
 use Rattle.std.proofs.lemmas.List.{drop-append-le, drop-drop, drop-set-lt}
 use Rattle.std.proofs.Math.ListN.{set, length-set}
 use Rattle.std.proofs.lemmas.Grind.{common_steps}
@@ -22,9 +22,10 @@ stored_more start settled es fs h small next =
       in_row = subst (λ (xs : List Entry). AreInRow (start + settled + 1) xs) (sym (drop-append-le settled es fs within)) (row_append (start + settled + 1) (drop settled es) fs h.in_row more);
     }
 
--- appending keeps the dropped entries at most half of all
+-- appending keeps the dropped entries few, or at most half of all
 pub trimmed_more : (settled : ℕ) (es fs : List Entry) → IsTrimmed settled es → IsTrimmed settled (es ++ fs)
-trimmed_more settled es fs h = omega (arith, length-append es fs)
+trimmed_more settled es fs (inl few) = inl few
+trimmed_more settled es fs (inr half) = inr (omega (arith, half, length-append es fs))
 
 -- one entry is appended
 pub stored_one : (start settled : ℕ) (es : List Entry) (e : Entry) → IsStored start settled es → e.position ≡ (start + settled) + length (drop settled es) + 1 → e.position < 2 ^ 64 → IsStored start settled (es ++ e ∷ [])

@@ -1,5 +1,5 @@
 -- The entries of a history after a base position.
-use Rattle.std.specs.Prelude.{◌≡◌, ℕ, ◌+◌, ◌-◌, ◌<◌, ◌≤◌, ◌^◌, List, ◌∷◌, length, drop}
+use Rattle.std.specs.Prelude.{◌≡◌, ◌⊎◌, ℕ, ◌+◌, ◌-◌, ◌<◌, ◌≤◌, ◌^◌, List, ◌∷◌, length, drop}
 use Rattle.craq_commands.specs.declared.entry.Entry.{Entry}
 use Rattle.craq_node_invariant.specs.Sound.{AreInRow}
 
@@ -27,6 +27,6 @@ pub record IsStored (start settled : ℕ) (entries : List Entry) : Type 0 where
   pub numbered : start + length entries < 2 ^ 64
   pub in_row : AreInRow (start + settled + 1) (drop settled entries)
 
--- at most half of the stored entries are dropped already
+-- of the stored entries, fewer than 64 are dropped already, or at most half
 abbrev pub IsTrimmed : ℕ → List Entry → Type 0
-IsTrimmed settled entries = settled + settled ≤ length entries
+IsTrimmed settled entries = (settled < 64) ⊎ (settled + settled ≤ length entries)

@@ -13,8 +13,8 @@ use std::mem;
 ///
 /// Acknowledged entries are dropped. A node remembers what it forwarded until it is acknowledged:
 /// the list of sent updates of the OSDI 2004 paper. Dropping costs amortized constant time per
-/// dropped entry, however many stay: settled entries stay stored until they are at least half of
-/// all.
+/// dropped entry, however many stay: settled entries stay stored until they are all of the entries,
+/// or at least half of all and at least 64.
 #[derive(Drop)]
 pub struct Suffix {
     start: u64,
@@ -160,7 +160,11 @@ fn taken_out(alloc: Global, entry: &mut Entry) -> Entry
     mem::replace(entry, empty)
 }
 
-/// Drops the settled entries if they are at least half of all. The visible entries are unchanged.
+/// Fewer settled entries than this stay stored while others follow them.
+const FEW_SETTLED: usize = 64;
+
+/// Drops the settled entries if they are all, or at least half of all and not few. The visible
+/// entries are unchanged.
 fn trim(start: &mut u64, entries: &mut Vec<Entry>, settled: &mut usize)
     requires { IsStored start.old settled.old entries.old.items }
     ensures base { start.new + settled.new ≡ start.old + settled.old }
@@ -169,18 +173,24 @@ fn trim(start: &mut u64, entries: &mut Vec<Entry>, settled: &mut usize)
     ensures stored { IsStored start.new settled.new entries.new.items }
     ensures few { IsTrimmed settled.new entries.new.items }
 {
-    if *settled >= entries.len() - *settled {
+    let others = entries.len() - *settled;
+    if others == 0 || (*settled >= FEW_SETTLED && *settled >= others) {
         let_go(entries, *settled);
         *start += *settled as u64;
         *settled = 0;
     }
 }
 
-/// Drops the first `count` entries. The vector keeps its capacity.
+/// Drops the first `count` entries. Where they are all, no entry is moved. The vector keeps its
+/// capacity.
 fn let_go(entries: &mut Vec<Entry>, count: usize)
     requires { count ≤ vec_len entries.old }
     ensures items { entries.new.items ≡ drop count entries.old.items }
     ensures capacity { vec_capacity entries.new ≡ vec_capacity entries.old }
 {
-    entries.drain(..count);
+    if count == entries.len() {
+        entries.clear();
+    } else {
+        entries.drain(..count);
+    }
 }

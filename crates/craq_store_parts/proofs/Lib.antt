@@ -1,1 +1,5 @@
+pub mod Running
+pub mod Recording
+pub mod Sending
+pub mod Beginning
 pub mod Sessions

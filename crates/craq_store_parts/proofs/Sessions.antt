@@ -8,10 +8,14 @@ use Rattle.craq_ghost_history.specs.Histories.{IsAdded}
 use Rattle.craq_store_history.specs.declared.entry.CallId.{CallId}
 use Rattle.craq_store_history.specs.declared.entry.Entry.{Entry}
 use Rattle.craq_store_history.specs.declared.entry.Entry.TheVariants.{Opened, Called, AtNode, AtMaster}
-use Rattle.craq_store_history.specs.Chains.{IsBelow}
+use Rattle.craq_ghost_history.specs.declared.author.Author.TheVariants.{Client}
+use Rattle.craq_ghost_history.specs.Authors.{of}
+use Rattle.craq_store_history.specs.Chains.{IsBelow, WasCalled}
 use Rattle.craq_store_history.specs.Entries.{author_of}
 use Rattle.craq_store_history.specs.Steps.{MayMake}
 use Rattle.craq_store_history.proofs.Calls.{below_later}
+use Rattle.craq_store_parts.specs.Sent.{IsMade}
+use Rattle.craq_store_parts.proofs.Recording.{has_added}
 
 abbrev call_of : ℕ → ℕ → CallId
 call_of client number = record { client = client; number = number }
@@ -32,3 +36,11 @@ fresh_after client next seen reported new name ask m a =
     let call : CallId = call_of client next in
     subst (AllByRecursion (IsBelow (call_of client (next + 1)))) (sym a.now)
     (all_next client next a.before (Called call name ask) (below_later call seen a.before (sym a.own) m) (λ same. omega arith))
+
+-- a session that sees more has the same calls
+pub fresh_later : (client next : ℕ) (xs ys : List Entry) → of author_of (Client client) xs ≡ of author_of (Client client) ys → MayMake xs (call_of client next) → MayMake ys (call_of client next)
+fresh_later client next xs ys own m = below_later (call_of client next) xs ys own m
+
+-- a call that was added is in the history
+pub was_called : (old new : List Entry) (call : CallId) (name : NodeName) (ask : Ask) → IsMade old call name ask new → WasCalled new call name ask
+was_called old new call name ask (a, is, added) = (a, has_added old [] new (Called call name a) added, is)

@@ -1,9 +1,37 @@
-//! A client's session, and the bytes of a message on their way, over the history of a store.
-//! `craq_workers` can put them in place of its own.
+//! The parts of a store over its history: nodes, masters, messages on their way, sessions, and
+//! calls from request to reply. What travels carries a token of the history, which has no bytes,
+//! and its type keeps the fact. `craq_running_node` and `craq_workers` can put them in place of
+//! their own.
 #![tactic(auto)]
 
+mod answered_call;
+mod at;
+mod limits;
+mod made_ask;
+mod messages;
+mod recorded_book;
+mod recorded_desk;
 mod session;
+mod stopped_node;
 mod wire;
 
+pub use answered_call::{AcceptedCall, AnsweredCall, StepReceipt};
+pub use at::At;
+use craq_ghost_history::{History, Token, Writer};
+use craq_store_history::{Entry, StoreRule};
+pub use made_ask::MadeAsk;
+pub use messages::{Messages, Outgoing, OwedAck};
+pub use recorded_book::RecordedBook;
+pub use recorded_desk::{Cause, RecordedDesk, StepCalls};
 pub use session::{CallMade, Session};
+pub use stopped_node::StoppedNode;
 pub use wire::Wire;
+
+/// The history of a store.
+pub type StoreHistory<N> = History<Entry, StoreRule, N>;
+
+/// A prefix of a store's history that was seen.
+pub type StoreToken<N> = Token<Entry, StoreRule, N>;
+
+/// The right to the entries of one author in a store's history.
+pub type StoreWriter<N> = Writer<Entry, StoreRule, N>;

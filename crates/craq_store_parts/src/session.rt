@@ -1,11 +1,19 @@
 //! `Session`: a client's session, which adds each call to the history before it is asked.
 ghost use Rattle.std.specs.Prelude.{◌≡◌, ◌+◌, IfSome};
+ghost use mathlib.Core.List.{IsPrefix};
+ghost use Rattle.craq_ghost_history.specs.Authors.{of};
+ghost use Rattle.craq_store_history.specs.Chains.{IsHistory, WasCalled};
+ghost use Rattle.craq_store_history.specs.Entries.{author_of};
+ghost use Rattle.craq_store_parts.specs.Recorded.{HasAccepted, HasReplied};
 ghost use Rattle.craq_store_parts.specs.Sent.{IsMade, IsSession};
 
-use craq_ghost_history::{History, Named, Token, Writer};
+use crate::answered_call::AnsweredCall;
+use crate::{StoreHistory, StoreToken, StoreWriter};
+use craq_ghost_history::Named;
 use craq_model::Ask;
 use craq_names::NodeName;
-use craq_store_history::{CallId, Entry, StoreRule};
+use craq_seat::CallReceipt;
+use craq_store_history::{CallId, Entry};
 use std::marker::Model;
 use std::snapshot::Snapshot;
 
@@ -13,7 +21,7 @@ use std::snapshot::Snapshot;
 #[derive(Drop)]
 pub struct CallMade<N: Named> {
     pub call: CallId,
-    pub token: Token<Entry, StoreRule, N>,
+    pub token: StoreToken<N>,
 }
 
 /// A client's session: it numbers its calls, and no two have one number.
@@ -21,7 +29,7 @@ pub struct CallMade<N: Named> {
 pub struct Session<N: Named> {
     client: u64,
     next: u64,
-    writer: Writer<Entry, StoreRule, N>,
+    writer: StoreWriter<N>,
 }
 
 impl<N: Named> Model for Session<N> {
@@ -34,9 +42,28 @@ impl<N: Named> Model for Session<N> {
     ghost invariant = { λ s. IsSession s.client s.next s.writer };
 }
 
+/// Sees all that there is, and so all that both tokens have seen. The author has no more entries by
+/// it.
+fn learn_both<N: Named>(
+    writer: &mut StoreWriter<N>,
+    history: &StoreHistory<N>,
+    first: StoreToken<N>,
+    second: StoreToken<N>,
+)
+    ensures this { IsPrefix writer.old.seen writer.new.seen }
+    ensures first { IsPrefix first writer.new.seen }
+    ensures second { IsPrefix second writer.new.seen }
+    ensures own { of author_of writer.old.author writer.new.seen ≡ of author_of writer.old.author writer.old.seen }
+    ensures author { writer.new.author ≡ writer.old.author }
+    ensures holds { IsHistory writer.new.seen }
+{
+    writer.learn(history, first);
+    writer.learn(history, second);
+}
+
 impl<N: Named> Session<N> {
     /// Makes a session of a client that made no call yet.
-    pub fn new(client: u64, writer: Writer<Entry, StoreRule, N>) -> Self
+    pub fn new(client: u64, writer: StoreWriter<N>) -> Self
         requires { IsSession client 0 writer }
         ensures { result ≡ record { client = client; next = 0; seen = writer.seen } }
     {
@@ -51,13 +78,14 @@ impl<N: Named> Session<N> {
     /// nothing changed: there is no next number.
     pub fn call(
         &mut self,
-        history: &History<Entry, StoreRule, N>,
+        history: &StoreHistory<N>,
         name: NodeName,
         ask: &Ask,
     ) -> Option<CallMade<N>>
         ensures call { IfSome result (λ c. c.call ≡ record { client = self.old.client; number = self.old.next }) }
         ensures made { IfSome result (λ c. IsMade self.old.seen c.call name ask.now self.new.seen) }
         ensures token { IfSome result (λ c. c.token ≡ self.new.seen) }
+        ensures called { IfSome result (λ c. WasCalled c.token c.call name ask.now) }
         ensures next { IfSome result (λ c. self.new.next ≡ self.old.next + 1) }
         ensures client { self.new.client ≡ self.old.client }
     {
@@ -76,5 +104,29 @@ impl<N: Named> Session<N> {
         let token = self.writer.add(history, &entry);
         self.next += 1;
         Some(CallMade { call, token })
+    }
+    /// Sees the steps in which a node accepted a call and replied to it, and returns the receipt of
+    /// the reply. None, with nothing changed: the reply is of another call, or of another node.
+    pub fn finish(
+        &mut self,
+        history: &StoreHistory<N>,
+        answered: AnsweredCall<N>,
+        call: CallId,
+        name: NodeName,
+    ) -> Option<CallReceipt>
+        ensures receipt { IfSome result (λ r. r ≡ answered) }
+        ensures accepted { IfSome result (λ r. HasAccepted self.new.seen name call r.call.ticket) }
+        ensures replied { IfSome result (λ r. HasReplied self.new.seen name r) }
+        ensures history { IfSome result (λ r. IsHistory self.new.seen) }
+        ensures later { IsPrefix self.old.seen self.new.seen }
+        ensures client { (self.new.client ≡ self.old.client) × (self.new.next ≡ self.old.next) }
+    {
+        match answered.into_own(call, name) {
+            None => None,
+            Some((receipt, accepted, replied)) => {
+                learn_both(&mut self.writer, history, accepted, replied);
+                Some(receipt)
+            }
+        }
     }
 }

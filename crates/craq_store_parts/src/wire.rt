@@ -5,13 +5,13 @@ ghost use Rattle.craq_store_history.specs.Entries.{lines_in};
 ghost use Rattle.craq_store_parts.specs.Sent.{IsSentAs};
 ghost use Rattle.craq_wire.specs.Encoding.{Encodes};
 
+use crate::{StoreHistory, StoreToken};
 use bytes::Bytes;
-use craq_ghost_history::{Named, Token};
+use craq_ghost_history::Named;
 use craq_model::LinkMessage;
 use craq_names::{ChainId, Refusal};
-use craq_store_history::{Entry, StoreRule};
 use craq_wire::decode;
-use std::alloc::Global;
+use std::alloc::{AllocError, Global};
 use std::marker::Model;
 
 /// The bytes of a message on their way: in the token's history a node of the chain, or its master,
@@ -20,7 +20,7 @@ use std::marker::Model;
 pub struct Wire<N: Named> {
     chain: ChainId,
     bytes: Bytes,
-    token: Token<Entry, StoreRule, N>,
+    token: StoreToken<N>,
 }
 
 impl<N: Named> Model for Wire<N> {
@@ -35,7 +35,7 @@ impl<N: Named> Model for Wire<N> {
 
 impl<N: Named> Wire<N> {
     /// Puts bytes on their way that encode a message which was sent in the token's history.
-    pub fn new(chain: ChainId, bytes: Bytes, token: Token<Entry, StoreRule, N>) -> Self
+    pub fn new(chain: ChainId, bytes: Bytes, token: StoreToken<N>) -> Self
         requires { IsSentAs chain bytes token }
         ensures chain { result.chain ≡ chain }
         ensures bytes { result.bytes ≡ bytes }
@@ -47,9 +47,29 @@ impl<N: Named> Wire<N> {
         }
     }
 
+    /// Returns the chain of the node, or the master, that sent the message. Never allocates.
+    pub fn chain(&self) -> ChainId
+        ensures { result ≡ self.now.chain }
+    {
+        self.chain
+    }
+
+    /// Returns a copy, as a link that repeats a message makes it. Fails only when out of memory.
+    pub fn again(&mut self, history: &StoreHistory<N>) -> Result<Self, AllocError>
+        ensures copy { IfOk result (λ w. w ≡ self.old) }
+        ensures same { self.new ≡ self.old }
+    {
+        let bytes = self.bytes.clone()?;
+        Ok(Wire {
+            chain: self.chain,
+            bytes,
+            token: self.token.again(history),
+        })
+    }
+
     /// Reads the message, which was sent in the returned token's history. The one refusal is
     /// `Memory`, since the bytes encode a message.
-    pub fn read(self, alloc: Global) -> Result<(LinkMessage, Token<Entry, StoreRule, N>), Refusal>
+    pub fn read(self, alloc: Global) -> Result<(LinkMessage, StoreToken<N>), Refusal>
         ensures sent { IfOk result (λ r. WasSent (lines_in self.chain r.1) r.0) }
         ensures spelled { IfOk result (λ r. Encodes r.0 self.bytes) }
     {

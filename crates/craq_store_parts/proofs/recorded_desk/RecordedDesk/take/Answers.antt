@@ -1,0 +1,139 @@
+use Rattle.std.proofs.Common.{◌≡◌, ◌∙◌, ap, sym, subst, Option, None, Ok, Bor}
+use Rattle.std.specs.Option.{option_copied}
+use Rattle.craq_model.specs.declared.step.Step.{Step}
+use Rattle.craq_model.specs.Plain.{Plain}
+use Rattle.craq_seat.specs.Calls.{Desked}
+use Rattle.craq_seat.specs.Cells.{with_inside}
+use Rattle.craq_seat.specs.Taken.{TakesEvent}
+use Rattle.craq_store_parts.specs.Recorded.{MayHappen}
+use Rattle.craq_store_parts.proofs.Recording.{Took, desk_may, desk_own, desk_recorded, desk_taken, last_replied, never, same_some, took}
+use Rattle.craq_store_parts.proofs.recorded_desk.RecordedDesk.take.Goals as goal
+use Rattle.craq_store_parts.proofs.recorded_desk.RecordedDesk.take.Goals.{in-Opened-1, in-Called-1, in-AtNode-1, in-AtMaster-1}
+
+pub unreachable-requires : goal.unreachable-requires
+unreachable-requires g c =
+    let old = c.self.inside.desk in
+    let new = c.take.new.self in
+    let t : Took g.C.Core.represents old.cell new.cell c.self.invariant.node c.args.event =
+    took g.C.Core.represents old.cell new.cell c.self.invariant.node c.args.event c.args.cause.pass c.in-Ok.receipt (c.in-Ok.ensures.step c.self.invariant.node c.self.invariant.stands) in
+    let none = subst (λ (o : Option (Bor Step)). option_copied o ≡ c.cell-cell.result.now.last) c.in_default.is c.last.ensures.value in
+    let last : c.cell-cell.result.now.last ≡ new.cell.last = ap (λ x. x.last) c.cell-cell.ensures in
+    never new.cell.last t.step (sym (none ∙ last)) t.last
+
+pub add_after-token-requires-clause-own : goal.add_after-token-requires-clause-own
+add_after-token-requires-clause-own g c =
+    let old = c.self.inside.desk in
+    let new = c.take.new.self in
+    let t : Took g.C.Core.represents old.cell new.cell c.self.invariant.node c.args.event =
+    took g.C.Core.represents old.cell new.cell c.self.invariant.node c.args.event c.args.cause.pass c.in-Ok.receipt (c.in-Ok.ensures.step c.self.invariant.node c.self.invariant.stands) in
+    let named : c.opening.result.now.name ≡ new.cell.opening.name = ap (λ x. x.name) c.opening.ensures ∙ ap (λ x. x.opening.name) c.cell-cell.ensures in
+    let stamped : c.stamp.result ≡ new.cell.stamp = c.stamp.ensures ∙ ap (λ x. x.stamp) c.cell-cell.ensures in
+    let says : c.of.result.value ≡ t.step = c.of.ensures ∙ same_some (c.in-Some.ensures.value ∙ (ap (λ x. x.last) c.cell-cell.ensures ∙ t.last)) in
+    let may : MayHappen c.args.cause.token old.cell.opening.name c.args.event c.args.cause.call =
+    subst (λ (d : Desked g.row.C.Denot). MayHappen c.args.cause.token d.cell.opening.name c.args.event c.args.cause.call) (sym c.self.view_is) c.requires.may in
+    desk_own g.C.Core.represents old new.cell c.self.inside.writer c.args.cause.token c.args.event c.of-noted.result c.args.cause.pass c.of.result c.args.cause.call c.opening.result.now.name c.stamp.result c.self.invariant t named stamped c.of-noted.ensures says may c.keep_event_limits.ensures
+
+pub add_after-token-requires-clause-may : goal.add_after-token-requires-clause-may
+add_after-token-requires-clause-may g c =
+    let old = c.self.inside.desk in
+    let new = c.take.new.self in
+    let t : Took g.C.Core.represents old.cell new.cell c.self.invariant.node c.args.event =
+    took g.C.Core.represents old.cell new.cell c.self.invariant.node c.args.event c.args.cause.pass c.in-Ok.receipt (c.in-Ok.ensures.step c.self.invariant.node c.self.invariant.stands) in
+    let named : c.opening.result.now.name ≡ new.cell.opening.name = ap (λ x. x.name) c.opening.ensures ∙ ap (λ x. x.opening.name) c.cell-cell.ensures in
+    let stamped : c.stamp.result ≡ new.cell.stamp = c.stamp.ensures ∙ ap (λ x. x.stamp) c.cell-cell.ensures in
+    let says : c.of.result.value ≡ t.step = c.of.ensures ∙ same_some (c.in-Some.ensures.value ∙ (ap (λ x. x.last) c.cell-cell.ensures ∙ t.last)) in
+    let may : MayHappen c.args.cause.token old.cell.opening.name c.args.event c.args.cause.call =
+    subst (λ (d : Desked g.row.C.Denot). MayHappen c.args.cause.token d.cell.opening.name c.args.event c.args.cause.call) (sym c.self.view_is) c.requires.may in
+    desk_may g.C.Core.represents old new.cell c.self.inside.writer c.args.cause.token c.args.event c.of-noted.result c.args.cause.pass c.of.result c.args.cause.call c.opening.result.now.name c.stamp.result c.self.invariant t named stamped c.of-noted.ensures says may c.keep_event_limits.ensures
+
+pub accepted_call-accepted-requires : goal.accepted_call-accepted-requires
+accepted_call-accepted-requires g c =
+    let old = c.self.inside.desk in
+    let new = c.take.new.self in
+    let t : Took g.C.Core.represents old.cell new.cell c.self.invariant.node c.args.event =
+    took g.C.Core.represents old.cell new.cell c.self.invariant.node c.args.event c.args.cause.pass c.in-Ok.receipt (c.in-Ok.ensures.step c.self.invariant.node c.self.invariant.stands) in
+    let named : c.opening.result.now.name ≡ new.cell.opening.name = ap (λ x. x.name) c.opening.ensures ∙ ap (λ x. x.opening.name) c.cell-cell.ensures in
+    let stamped : c.stamp.result ≡ new.cell.stamp = c.stamp.ensures ∙ ap (λ x. x.stamp) c.cell-cell.ensures in
+    let says : c.of.result.value ≡ t.step = c.of.ensures ∙ same_some (c.in-Some.ensures.value ∙ (ap (λ x. x.last) c.cell-cell.ensures ∙ t.last)) in
+    let may : MayHappen c.args.cause.token old.cell.opening.name c.args.event c.args.cause.call =
+    subst (λ (d : Desked g.row.C.Denot). MayHappen c.args.cause.token d.cell.opening.name c.args.event c.args.cause.call) (sym c.self.view_is) c.requires.may in
+    (c.args.event, c.args.cause.pass, rw c.cell-cell.ensures (desk_taken g.C.Core.represents old new.cell c.self.inside.writer c.args.cause.token c.args.event c.of-noted.result c.args.cause.pass c.of.result c.args.cause.call c.opening.result.now.name c.stamp.result c.self.invariant t named stamped c.of-noted.ensures says may c.keep_event_limits.ensures c.add_after-token.new.self.seen c.add_after-token.result c.add_after-token.ensures.added c.add_after-token.ensures.token))
+
+pub invariant_of-self-in-Some-3 : goal.invariant_of-self-in-Some-3
+invariant_of-self-in-Some-3 g c =
+    let old = c.self.inside.desk in
+    let new = c.take.new.self in
+    let t : Took g.C.Core.represents old.cell new.cell c.self.invariant.node c.args.event =
+    took g.C.Core.represents old.cell new.cell c.self.invariant.node c.args.event c.args.cause.pass c.in-Ok.receipt (c.in-Ok.ensures.step c.self.invariant.node c.self.invariant.stands) in
+    let named : c.opening.result.now.name ≡ new.cell.opening.name = ap (λ x. x.name) c.opening.ensures ∙ ap (λ x. x.opening.name) c.cell-cell.ensures in
+    let stamped : c.stamp.result ≡ new.cell.stamp = c.stamp.ensures ∙ ap (λ x. x.stamp) c.cell-cell.ensures in
+    let says : c.of.result.value ≡ t.step = c.of.ensures ∙ same_some (c.in-Some.ensures.value ∙ (ap (λ x. x.last) c.cell-cell.ensures ∙ t.last)) in
+    let may : MayHappen c.args.cause.token old.cell.opening.name c.args.event c.args.cause.call =
+    subst (λ (d : Desked g.row.C.Denot). MayHappen c.args.cause.token d.cell.opening.name c.args.event c.args.cause.call) (sym c.self.view_is) c.requires.may in
+    desk_recorded g.C.Core.represents old new.cell c.self.inside.writer c.args.cause.token c.args.event c.of-noted.result c.args.cause.pass c.of.result c.args.cause.call c.opening.result.now.name c.stamp.result c.self.invariant t named stamped c.of-noted.ensures says may c.keep_event_limits.ensures new.waiting c.add_after-token.new.self c.add_after-token.ensures.author c.add_after-token.ensures.added
+
+pub returns-in-Some-clause-step : goal.returns-in-Some-clause-step
+returns-in-Some-clause-step g c =
+    let same = λ (p : Plain) (h : g.C.Core.represents c.args.self.now.cell.inside p).
+    subst (λ (d : Desked g.row.C.Denot). TakesEvent g.C.Core.represents c.take.new.self.cell (with_inside d.cell p) c.args.event c.args.cause.pass (Ok c.in-Ok.receipt)) c.self.view_is
+    (c.in-Ok.ensures.step p (subst (λ (d : Desked g.row.C.Denot). g.C.Core.represents d.cell.inside p) (sym c.self.view_is) h)) in
+    elim c.match-entry.branch [
+      | in-Opened-1 w ↦ rw w.self-is same
+      | in-Called-1 w ↦ rw w.self-is same
+      | in-AtNode-1 w ↦ rw w.self-is same
+      | in-AtMaster-1 w ↦ rw w.self-is same
+    ]
+
+pub returns-in-Some-clause-opening : goal.returns-in-Some-clause-opening
+returns-in-Some-clause-opening g c =
+    let old = c.self.inside.desk in
+    let new = c.take.new.self in
+    let t : Took g.C.Core.represents old.cell new.cell c.self.invariant.node c.args.event =
+    took g.C.Core.represents old.cell new.cell c.self.invariant.node c.args.event c.args.cause.pass c.in-Ok.receipt (c.in-Ok.ensures.step c.self.invariant.node c.self.invariant.stands) in
+    let same : new.cell.opening ≡ c.args.self.now.cell.opening = t.opening ∙ ap (λ x. x.cell.opening) c.self.view_is in
+    elim c.match-entry.branch [
+      | in-Opened-1 w ↦ rw w.self-is same
+      | in-Called-1 w ↦ rw w.self-is same
+      | in-AtNode-1 w ↦ rw w.self-is same
+      | in-AtMaster-1 w ↦ rw w.self-is same
+    ]
+
+pub returns-in-Some-clause-taken : goal.returns-in-Some-clause-taken
+returns-in-Some-clause-taken g c =
+    let old = c.self.inside.desk in
+    let new = c.take.new.self in
+    let t : Took g.C.Core.represents old.cell new.cell c.self.invariant.node c.args.event =
+    took g.C.Core.represents old.cell new.cell c.self.invariant.node c.args.event c.args.cause.pass c.in-Ok.receipt (c.in-Ok.ensures.step c.self.invariant.node c.self.invariant.stands) in
+    let named : c.opening.result.now.name ≡ new.cell.opening.name = ap (λ x. x.name) c.opening.ensures ∙ ap (λ x. x.opening.name) c.cell-cell.ensures in
+    let stamped : c.stamp.result ≡ new.cell.stamp = c.stamp.ensures ∙ ap (λ x. x.stamp) c.cell-cell.ensures in
+    let says : c.of.result.value ≡ t.step = c.of.ensures ∙ same_some (c.in-Some.ensures.value ∙ (ap (λ x. x.last) c.cell-cell.ensures ∙ t.last)) in
+    let may : MayHappen c.args.cause.token old.cell.opening.name c.args.event c.args.cause.call =
+    subst (λ (d : Desked g.row.C.Denot). MayHappen c.args.cause.token d.cell.opening.name c.args.event c.args.cause.call) (sym c.self.view_is) c.requires.may in
+    let taken = desk_taken g.C.Core.represents old new.cell c.self.inside.writer c.args.cause.token c.args.event c.of-noted.result c.args.cause.pass c.of.result c.args.cause.call c.opening.result.now.name c.stamp.result c.self.invariant t named stamped c.of-noted.ensures says may c.keep_event_limits.ensures c.add_after-token.new.self.seen c.accepted_call-accepted.new.token c.add_after-token.ensures.added (c.accepted_call-accepted.ensures.same ∙ c.add_after-token.ensures.token) in
+    elim c.match-entry.branch [
+      | in-Opened-1 w ↦ rw w.self-is taken
+      | in-Called-1 w ↦ rw w.self-is taken
+      | in-AtNode-1 w ↦ rw w.self-is taken
+      | in-AtMaster-1 w ↦ rw w.self-is taken
+    ]
+
+pub returns-in-Some-clause-replied : goal.returns-in-Some-clause-replied
+returns-in-Some-clause-replied g c =
+    let old = c.self.inside.desk in
+    let new = c.take.new.self in
+    let t : Took g.C.Core.represents old.cell new.cell c.self.invariant.node c.args.event =
+    took g.C.Core.represents old.cell new.cell c.self.invariant.node c.args.event c.args.cause.pass c.in-Ok.receipt (c.in-Ok.ensures.step c.self.invariant.node c.self.invariant.stands) in
+    let named : c.opening.result.now.name ≡ new.cell.opening.name = ap (λ x. x.name) c.opening.ensures ∙ ap (λ x. x.opening.name) c.cell-cell.ensures in
+    let stamped : c.stamp.result ≡ new.cell.stamp = c.stamp.ensures ∙ ap (λ x. x.stamp) c.cell-cell.ensures in
+    let says : c.of.result.value ≡ t.step = c.of.ensures ∙ same_some (c.in-Some.ensures.value ∙ (ap (λ x. x.last) c.cell-cell.ensures ∙ t.last)) in
+    let may : MayHappen c.args.cause.token old.cell.opening.name c.args.event c.args.cause.call =
+    subst (λ (d : Desked g.row.C.Denot). MayHappen c.args.cause.token d.cell.opening.name c.args.event c.args.cause.call) (sym c.self.view_is) c.requires.may in
+    let taken = desk_taken g.C.Core.represents old new.cell c.self.inside.writer c.args.cause.token c.args.event c.of-noted.result c.args.cause.pass c.of.result c.args.cause.call c.opening.result.now.name c.stamp.result c.self.invariant t named stamped c.of-noted.ensures says may c.keep_event_limits.ensures c.add_after-token.new.self.seen c.accepted_call-accepted.new.token c.add_after-token.ensures.added (c.accepted_call-accepted.ensures.same ∙ c.add_after-token.ensures.token) in
+    let replied =
+    last_replied c.accepted_call-accepted.new.token new.cell c.args.event c.args.cause.pass c.args.cause.call t.step t.last taken c.in-Ok.receipt c.in-Ok.ensures.receipt old.waiting new.waiting c.in-Ok.calls c.in-Ok.ensures.calls in
+    elim c.match-entry.branch [
+      | in-Opened-1 w ↦ rw w.self-is replied
+      | in-Called-1 w ↦ rw w.self-is replied
+      | in-AtNode-1 w ↦ rw w.self-is replied
+      | in-AtMaster-1 w ↦ rw w.self-is replied
+    ]

@@ -1,0 +1,118 @@
+-- A node whose steps are in a store's history, and the calls that it accepted and answered there.
+use Rattle.std.specs.Prelude.{◌≡◌, ◌≢◌, ℕ, Bool, false, List, Contains, Option, Some, None, IfSome}
+use Rattle.std.specs.List.{AllByRecursion}
+use Rattle.std.specs.declared.snapshot.Snapshot.{Snapshot}
+use Rattle.craq_names.specs.declared.name.NodeName.{NodeName}
+use Rattle.craq_model.specs.declared.ask.Answer.{Answer}
+use Rattle.craq_model.specs.declared.ask.Event.{Event}
+use Rattle.craq_model.specs.declared.step.Out.TheVariants as outs
+use Rattle.craq_model.specs.declared.step.Step.{Step}
+use Rattle.craq_model.specs.Plain.{Plain}
+use Rattle.craq_epochs.specs.Mastered.{Mastered, opened_master}
+use Rattle.craq_seat.specs.declared.journal.BookEvent.{BookEvent}
+use Rattle.craq_seat.specs.declared.journal.Receipt.{Receipt}
+use Rattle.craq_seat.specs.Books.{book_opening}
+use Rattle.craq_seat.specs.Calls.{Called, Desked}
+use Rattle.craq_seat.specs.Cells.{Celled, opened, receipt_of}
+use Rattle.craq_seat.specs.Merge.{MergedStep}
+use Rattle.craq_causality.specs.Authors.{first_of}
+use Rattle.craq_causality.specs.Causal.{HasJoined, HasStopped, IsOfSent}
+use Rattle.craq_ghost_history.specs.declared.author.Author.TheVariants.{Node}
+use Rattle.craq_ghost_history.specs.Histories.{Written}
+use Rattle.craq_store_history.specs.declared.entry.CallId.{CallId}
+use Rattle.craq_store_history.specs.declared.entry.Entry.{Entry}
+use Rattle.craq_store_history.specs.declared.entry.Entry.TheVariants.{AtNode}
+use Rattle.craq_store_history.specs.Chains.{Accepts}
+use Rattle.craq_store_history.specs.Entries.{lines_in, members_in}
+use Rattle.craq_store_history.specs.Steps.{IsMasterAt, IsNodeAt}
+
+-- in one of these lines the node took this step, under this stamp
+pub record HasStep (lines : List MergedStep) (id stamp : ℕ) (taken : Step) : Type 0 where
+  pub line : MergedStep
+  pub there : Contains lines line
+  pub node : line.node ≡ id
+  pub under : line.stamp ≡ stamp
+  pub step : line.step ≡ taken
+
+-- the desk's node is the replay of its entries in the history, of which the writer knows all; its last step is among them, and it is a
+-- stop if the node does not run
+pub record IsRecorded {C : Type 0} (represents : C → Plain → Type 0) (d : Desked C) (w : Written Entry) : Type 0 where
+  pub author : w.author ≡ Node d.cell.opening.name.chain d.cell.opening.name.node
+  pub node : Plain
+  pub stands : represents d.cell.inside node
+  pub at : IsNodeAt d.cell.opening.name w.seen node d.cell.stamp
+  pub last : IfSome d.cell.last (λ (step : Step). HasStep (lines_in d.cell.opening.name.chain w.seen) d.cell.opening.name.node d.cell.stamp step)
+  pub stopped : node.running ≡ false → HasStopped (lines_in d.cell.opening.name.chain w.seen) d.cell.opening.name (receipt_of d.cell)
+
+-- a node may begin after this history: its chain was opened, the node is a first member or has joined, and its cell took no step
+pub record CanBegin {C : Type 0} (represents : C → Plain → Type 0) (log : List Entry) (cell : Celled C Event) : Type 0 where
+  pub members : List ℕ
+  pub opened : members_in cell.opening.name.chain log ≡ Some members
+  pub member : cell.opening.name.node ≢ 0
+  pub joined : HasJoined members (lines_in cell.opening.name.chain log) cell.opening.name.node
+  pub first : represents cell.inside (first_of cell.opening.name.chain members cell.opening.name.node)
+  pub unmoved : cell.last ≡ None
+
+-- the master is the replay of its entries in the history, of which the writer knows all; its last step is among them
+pub record IsRecordedBook (b : Celled Mastered BookEvent) (w : Written Entry) : Type 0 where
+  pub author : w.author ≡ Node b.opening.name.chain 0
+  pub zero : b.opening.name.node ≡ 0
+  pub at : IsMasterAt b.opening.name.chain w.seen b.inside b.stamp
+  pub last : IfSome b.last (λ (step : Step). HasStep (lines_in b.opening.name.chain w.seen) b.opening.name.node b.stamp step)
+
+-- a master's cell as it was opened, before any step
+abbrev pub IsUnmoved : Celled Mastered BookEvent → Type 0
+IsUnmoved b = (chain : ℕ) × (members : List ℕ) × (journal : Bool) × (b ≡ opened (book_opening chain members) journal (opened_master chain members))
+
+-- the event may happen at the node after this history: its message was sent, and its call was made
+pub record MayHappen (log : List Entry) (name : NodeName) (event : Event) (call : Option CallId) : Type 0 where
+  pub sent : IsOfSent (lines_in name.chain log) event
+  pub called : Accepts log name event call
+
+-- in this history the node took this step on this event; it accepted the call, if there is one
+abbrev pub HasTaken : List Entry → NodeName → ℕ → Event → ℕ → Step → Option CallId → Type 0
+HasTaken log name stamp event pass step call =
+    (e : Snapshot Event) × (s : Snapshot Step) × Contains log (AtNode name stamp e pass s call) × (e.value ≡ event) × (s.value ≡ step)
+
+-- in this history the node accepted the call under the ticket
+pub record HasAccepted (log : List Entry) (name : NodeName) (call : CallId) (ticket : ℕ) : Type 0 where
+  pub stamp : ℕ
+  pub event : Event
+  pub pass : ℕ
+  pub step : Step
+  pub taken : HasTaken log name stamp event pass step (Some call)
+  pub under : step.ticket ≡ Some ticket
+
+-- in this history the node gave the answer under the ticket, in the step of this stamp
+pub record HasAnswered (log : List Entry) (name : NodeName) (ticket stamp : ℕ) (answer : Answer) : Type 0 where
+  pub event : Event
+  pub pass : ℕ
+  pub step : Step
+  pub accepted : Option CallId
+  pub taken : HasTaken log name stamp event pass step accepted
+  pub out : Contains step.outs (outs.Answer ticket answer)
+
+-- in this history the node gave the reply of a receipt
+abbrev pub HasReplied : List Entry → NodeName → Called → Type 0
+HasReplied log name c = HasAnswered log name c.call.ticket c.answered.stamp c.answer
+
+-- so it did for each of these receipts
+abbrev pub HaveReplied : List Entry → NodeName → List Called → Type 0
+HaveReplied log name receipts = AllByRecursion (HasReplied log name) receipts
+
+-- the view that contracts have of a call that a node accepted
+pub record Accepted : Type 0 where
+  pub call : CallId
+  pub name : NodeName
+  pub ticket : ℕ
+
+-- the call that a step accepts under this ticket, if there are both
+abbrev pub accepted_under : NodeName → Option CallId → Option ℕ → Option Accepted
+accepted_under name None ticket = None
+accepted_under name (Some call) None = None
+accepted_under name (Some call) (Some ticket) = Some (record { call = call; name = name; ticket = ticket })
+
+-- the view that contracts have of a node that stopped: its name, and the step in which it did
+pub record Stopping : Type 0 where
+  pub stopped : NodeName
+  pub stop : Receipt

@@ -1,0 +1,127 @@
+//! `RecordedBook`: the cell of a chain's master whose steps are entries of the store's history; a
+//! running chain has one under its lock.
+ghost use Rattle.std.specs.Prelude.{◌≡◌, [], IfSome};
+ghost use Rattle.craq_seat.specs.Books.{IsBook};
+ghost use Rattle.craq_seat.specs.Taken.{TakesTransition};
+ghost use Rattle.craq_causality.specs.Causal.{IsOfStopped};
+ghost use Rattle.craq_ghost_history.specs.declared.author.Author.TheVariants as Author;
+ghost use Rattle.craq_store_history.specs.Entries.{lines_in};
+ghost use Rattle.craq_store_parts.specs.Recorded.{HasStep, IsRecordedBook, IsUnmoved};
+
+use crate::{StoreHistory, StoreToken, StoreWriter};
+use craq_ghost_history::Named;
+use craq_names::{Pass, Refusal};
+use craq_seat::{BookCell, BookEvent, Receipt};
+use craq_store_history::Entry;
+use std::alloc::Global;
+use std::marker::Model;
+use std::snapshot::Snapshot;
+
+/// The cell of a chain's master, with the right to the master's entries in the store's history.
+/// Each step of the cell is such an entry, so the master is the replay of its entries. A contract
+/// sees the cell.
+#[derive(Drop)]
+pub struct RecordedBook<N: Named> {
+    cell: BookCell,
+    writer: StoreWriter<N>,
+}
+
+impl<N: Named> Model for RecordedBook<N> {
+    ghost use Rattle.craq_epochs.specs.Mastered.{Mastered};
+    ghost use Rattle.craq_seat.specs.declared.journal.BookEvent.{BookEvent};
+    ghost use Rattle.craq_seat.specs.Cells.{Celled};
+    ghost use Rattle.craq_store_parts.specs.Recorded.{IsRecordedBook};
+
+    ghost Value = { Celled Mastered BookEvent };
+
+    ghost view = { λ b. b.cell };
+
+    ghost invariant = { λ b. IsRecordedBook b.cell b.writer };
+}
+
+/// Copies an event of a master.
+fn copy_of(event: &BookEvent) -> BookEvent
+    ensures { result ≡ event.now }
+{
+    *event
+}
+
+impl<N: Named> RecordedBook<N> {
+    /// Makes the cell of a master that is the replay of the entries which the writer has seen.
+    pub fn new(cell: BookCell, writer: StoreWriter<N>) -> Self
+        requires { IsRecordedBook cell writer }
+        ensures { result ≡ cell }
+    {
+        RecordedBook { cell, writer }
+    }
+
+    /// Opens a chain in the history: adds the entry that it has the first members of this cell,
+    /// which took no step yet.
+    pub fn open(history: &StoreHistory<N>, cell: BookCell, writer: StoreWriter<N>) -> Self
+        requires opened { IsUnmoved cell }
+        requires author { writer.author ≡ Author.Node cell.opening.name.chain 0 }
+        requires none { writer.seen ≡ [] }
+        ensures { result ≡ cell }
+    {
+        cell.journal();
+        let mut writer = writer;
+        let entry = Entry::Opened {
+            chain: cell.opening().name.chain,
+            members: Snapshot::of(&cell.config().members),
+        };
+        drop(writer.add(history, &entry));
+        RecordedBook { cell, writer }
+    }
+
+    /// Returns the master's cell. Never allocates.
+    pub fn cell(&self) -> &BookCell
+        ensures { result.now ≡ self.now }
+    {
+        &self.cell
+    }
+
+    /// Takes one step of the master, exactly as `BookCell::take` does, and adds it to the history,
+    /// after all that the token has seen. On a refusal nothing is changed and nothing added.
+    pub fn take(
+        &mut self,
+        alloc: Global,
+        history: &StoreHistory<N>,
+        event: BookEvent,
+        pass: Pass,
+        token: StoreToken<N>,
+    ) -> Result<Receipt, Refusal>
+        requires { IsOfStopped (lines_in self.old.opening.name.chain token) event }
+        ensures step { TakesTransition self.old self.new event pass result }
+        ensures kept { IsBook self.new }
+        ensures opening { self.new.opening ≡ self.old.opening }
+    {
+        match self.cell.take(alloc, copy_of(&event), pass) {
+            Err(refusal) => {
+                drop(token);
+                Err(refusal)
+            }
+            Ok(receipt) => {
+                let Some(step) = self.cell.last() else {
+                    unreachable!()
+                };
+                let entry = Entry::AtMaster {
+                    chain: self.cell.opening().name.chain,
+                    stamp: self.cell.stamp(),
+                    event,
+                    pass,
+                    step: Snapshot::of(step),
+                };
+                drop(self.writer.add_after(history, &entry, token));
+                Ok(receipt)
+            }
+        }
+    }
+
+    /// Returns a token that has seen all steps of the master; the last one is in it.
+    pub fn token(&mut self, history: &StoreHistory<N>) -> StoreToken<N>
+        ensures same { self.new ≡ self.old }
+        ensures last { IfSome self.old.last (λ step. HasStep (lines_in self.old.opening.name.chain result) self.old.opening.name.node self.old.stamp step) }
+    {
+        self.writer.token(history)
+    }
+}

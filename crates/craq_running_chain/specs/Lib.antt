@@ -1,3 +1,4 @@
 pub mod Asks
 pub mod Batches
 pub mod Missed
+pub mod Resting

@@ -8,6 +8,7 @@ ghost use Rattle.craq_seat.specs.Books.{first_master, members_of};
 ghost use Rattle.craq_running_chain.specs.Missed.{IsMissed};
 ghost use Rattle.craq_running_node.specs.Routes.{retired, shut};
 
+use crate::rest::Rest;
 use crate::wake_up::WakeUp;
 use craq_locked_chain::ChainBook;
 use craq_model::Config;
@@ -39,7 +40,7 @@ pub struct Open {
 }
 
 /// A chain that runs: its name, its id and its first membership, its master's cell under its lock,
-/// its routing table, and the wake-up of its chain thread.
+/// its routing table, the wake-up of its chain thread, and the ticks since it last had work.
 #[derive(Drop)]
 pub struct Chain<C: Core> {
     pub name: String,
@@ -48,6 +49,7 @@ pub struct Chain<C: Core> {
     pub book: Mutex<ChainBook>,
     pub routes: RwLock<RoutingTable<C>>,
     pub wake_up: WakeUp,
+    pub rest: Rest,
 }
 
 impl<C: Core> RoutingTable<C> {
@@ -227,9 +229,19 @@ impl<C: Core> Chain<C> {
     /// Brings something to the node of this id. It is lost if there is no such node, and when out
     /// of memory.
     pub(crate) fn forward<R: Wait>(&self, rt: &R, id: NodeId, brought: Delivery) {
+        if let Delivery::Blank(_) = &brought {
+            self.rest.end();
+        }
         let routes = self.routes.read(rt);
         if let Ok(route) = routes.to(id) {
             route.forward(rt, brought);
+        }
+    }
+
+    /// Brings a tick to the master and to each running node, unless the chain rests: see `Rest`.
+    pub fn tick_if_due<R: Wait>(&self, rt: &R) {
+        if self.rest.tick() {
+            self.tick(rt);
         }
     }
 
@@ -263,6 +275,7 @@ impl<C: Core> Chain<C> {
     pub fn add<R: Wait>(&self, rt: &R, route: Route<C>) -> Result<(), Refusal>
         ensures { IfErr result (λ e. e ≡ Refusal.Memory) }
     {
+        self.rest.end();
         let mut routes = self.routes.write(rt);
         Ok(routes.nodes.push(route)?)
     }
@@ -270,6 +283,7 @@ impl<C: Core> Chain<C> {
     /// Drops the senders of the node of this id, so that its workers end once their queues are
     /// empty. Drops the node too, unless an audit will need its cell (`keep`).
     pub fn retire<R: Wait>(&self, rt: &R, id: NodeId, keep: bool) {
+        self.rest.end();
         self.routes.write(rt).retire(id, keep);
     }
 

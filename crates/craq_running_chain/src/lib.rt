@@ -6,12 +6,14 @@
 mod batch;
 mod chain;
 mod chain_thread;
+mod rest;
 mod shared;
 mod unsent;
 mod wake_up;
 mod work;
 
 pub use chain::{Chain, Open, RoutingTable, refuse_queued};
+pub use rest::Rest;
 pub use shared::{Shared, Wakes};
 pub use wake_up::WakeUp;
 pub use work::{Worker, master_of, run_worker};

@@ -165,6 +165,7 @@ impl<C: Core, G: Gate> Shared<C, G> {
             token,
             light_load,
         } = caller;
+        chain.rest.end();
         let asked = ask.copied(self.alloc)?;
         let own = OwnAsk {
             ask: asked,

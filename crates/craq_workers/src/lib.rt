@@ -7,6 +7,7 @@
 
 mod auditing;
 mod client;
+mod looking;
 mod opening;
 mod staff;
 mod store;

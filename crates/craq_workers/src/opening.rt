@@ -16,7 +16,7 @@ use craq_model::Config;
 use craq_names::{ChainId, Copied, NodeId, NodeName, Refusal, Stamp};
 use craq_node::Core;
 use craq_place::{MOST_CHAINS, Plan};
-use craq_running_chain::{Chain, Open, RoutingTable, WakeUp, Worker};
+use craq_running_chain::{Chain, Open, Rest, RoutingTable, WakeUp, Worker};
 use craq_running_node::{Entrances, Queues, Route, RunningNode};
 use craq_seat::{Cell, Desk};
 use crossbeam_channel::Sender;
@@ -182,6 +182,7 @@ fn open_chain<C: Core>(
             open: Some(Open { master, alive }),
         }),
         wake_up: WakeUp::new(),
+        rest: Rest::new(),
     })
 }
 

@@ -295,12 +295,16 @@ impl<C: Core, G: Gate> Store<C, G> {
     /// lack. A program with many chains can so spread their ticks over time, where `tick` makes all
     /// nodes work at once.
     ///
+    /// A chain rests after 20 such ticks without a request, a node that is not ready or a change of
+    /// its nodes. Of the ticks that come then it takes each 20th, so an idle store costs little.
+    /// These numbers are of this project's profile.
+    ///
     /// Refused with `UnknownChain` exactly if the store has no such chain; nothing is ticked then.
     pub fn tick_chain<R: Wait>(&self, rt: &R, chain: ChainId) -> Result<(), Refusal>
         ensures unknown { (result ≡ Err Refusal.UnknownChain) ↔ (length self.now.names ≤ chain) }
         ensures refused { IfErr result (λ e. e ≡ Refusal.UnknownChain) }
     {
-        self.shared.chain(chain)?.tick(rt);
+        self.shared.chain(chain)?.tick_if_due(rt);
         Ok(())
     }
 

@@ -18,7 +18,7 @@ use Rattle.craq_session.specs.declared.call_request.CallRequest.{CallRequest}
 use Rattle.craq_event_loop.specs.declared.connection.Connection.{Connection}
 use Rattle.craq_event_loop.specs.Advancing.{AsksBackend, TakesSteps, none, step, call, TakesRound, rests, HasRound, HasRoundAt, next_call, under_key}
 use Rattle.craq_event_loop.specs.Belonging.{CameBack, KeepsSlot}
-use Rattle.craq_event_loop.proofs.Completions.{receipt_refusable, refusal_refusable}
+use Rattle.craq_session.proofs.Completions.{receipt_refusable, refusal_refusable}
 
 module _ (refuses : Refusing) (submits : Submitting) where
   -- nothing came at once: a completion will come, or no call was under way

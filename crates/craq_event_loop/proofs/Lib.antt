@@ -3,7 +3,6 @@ pub mod Belonging
 pub mod Busy
 pub mod Coming
 pub mod Ending
-pub mod Completions
 pub mod Marks
 pub mod Numbers
 pub mod Serving

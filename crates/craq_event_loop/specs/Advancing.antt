@@ -66,7 +66,7 @@ asked_in (call count mid made new number unsent taken took asked) = asked_in tak
 
 -- the most steps that a connection takes in a round before others have their turn
 abbrev pub most_steps : ℕ
-most_steps = 8
+most_steps = 2
 
 -- a step that finds nothing to do, and says why
 abbrev pub IsLast : Stepped → Type 0

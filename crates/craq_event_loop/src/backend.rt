@@ -3,17 +3,15 @@
 ghost use Rattle.std.specs.Prelude.{Bool, List};
 ghost use Rattle.craq_completions.specs.declared.queue_state.Completion.{Completion};
 
+use crate::traffic::ClientStream;
 use craq_completions::Completion;
-use craq_names::Refusal;
 use craq_seat::CallReceipt;
 use craq_session::AsyncBackend;
-use std::net::TcpStream;
-use std::sync::Arc;
 
 /// A connection that came to an event loop.
 #[derive(Drop)]
 pub struct Arrival {
-    pub stream: Arc<TcpStream>,
+    pub stream: ClientStream,
     /// Its place among the open connections.
     pub slot: usize,
     /// The index under which the receipts of its calls are handed over once it has ended.
@@ -45,9 +43,6 @@ pub trait LoopBackend: AsyncBackend {
 
     /// Returns the seconds since some fixed moment. They never go back.
     fn seconds(&self) -> u64;
-
-    /// Notes that a call of the connection at this place is refused.
-    fn refused(&self, slot: usize, refusal: Refusal);
 
     /// Notes that the connection at this place has ended, with the receipts of its calls where they
     /// are kept.

@@ -7,17 +7,15 @@ ghost use Rattle.craq_event_loop.specs.Starved.{IsStarved};
 
 use crate::backend::{Arrival, LoopBackend};
 use crate::socket::{Moved, Socket};
+use crate::traffic::ClientStream;
 use craq_completions::{Outcome, Token};
-use craq_pending_calls::refusal_of_call;
-use craq_session::{ConnectionState, Stepped, UnsentCall};
+use craq_session::{ConnectionState, Load, Stepped, UnsentCall, outcome_of_completion};
 use mio::event::Event;
 use mio::unix::SourceFd;
 use mio::{Interest, Registry};
 use std::alloc::Global;
 use std::io;
-use std::net::TcpStream;
 use std::os::fd::AsRawFd;
-use std::sync::Arc;
 
 /// The number of unsent bytes below which they wait for more replies, where a whole frame may be
 /// there. This project's profile.
@@ -28,8 +26,8 @@ const FEW_BYTES: usize = 1_024;
 pub(crate) struct Share {
     /// The most steps that it takes.
     pub(crate) steps: usize,
-    /// True where few connections are busy.
-    pub(crate) light_load: bool,
+    /// The load of the event loop.
+    pub(crate) load: Load,
 }
 
 /// The readiness of a connection, as far as it is known.
@@ -86,7 +84,7 @@ pub(crate) struct Connection<S> {
     ghost unread: { more ≡ false → ∥ IsStarved state.phase state.codec.buffers.input.items ∥₁ },
 }
 
-impl Connection<Arc<TcpStream>> {
+impl Connection<ClientStream> {
     ghost use Rattle.craq_event_loop.specs.Belonging.{CameAs, IsNew};
 
     /// Makes the state of a connection that came, whose readiness is reported under this token.
@@ -108,10 +106,10 @@ impl Connection<Arc<TcpStream>> {
             slot,
             receipts,
         } = arrival;
-        stream.set_nonblocking(true)?;
-        let _ = stream.set_nodelay(true);
+        stream.stream.set_nonblocking(true)?;
+        let _ = stream.stream.set_nodelay(true);
         let all = Interest::READABLE | Interest::WRITABLE | Interest::PRIORITY;
-        registry.register(&mut SourceFd(&stream.as_raw_fd()), token, all)?;
+        registry.register(&mut SourceFd(&stream.stream.as_raw_fd()), token, all)?;
         Ok(Connection {
             stream,
             state: ConnectionState::new(alloc, keep_receipts),
@@ -376,17 +374,14 @@ impl<S: Socket> Connection<S> {
         self.state.answer(alloc, outcome);
     }
 
-    /// Returns the outcome of the call that is under way whose completion says this. A refusal that
-    /// such a request cannot have is another call's, and becomes `Closed`.
+    /// Returns the outcome of the call that is under way, by its completion
+    /// (`outcome_of_completion`).
     fn outcome_of(&self, reply: Outcome) -> Outcome
         ensures { IsOutcome self.now.state.phase reply result }
     {
-        let Some(request) = self.state.request() else {
-            return reply;
-        };
-        match reply {
-            Ok(receipt) => Ok(receipt),
-            Err(refusal) => Err(refusal_of_call(&request.ask, refusal)),
+        match self.state.request() {
+            Some(request) => outcome_of_completion(request, reply),
+            None => reply,
         }
     }
 
@@ -419,7 +414,7 @@ impl<S: Socket> Connection<S> {
         backend: &H,
         unsent: UnsentCall,
         key: usize,
-        light_load: bool,
+        load: Load,
     )
         ensures asked { AsksBackend (H.refuses backend.now) (under_key (H.submits backend.now) key (next_call self.old.calls)) self.old.state.phase self.old.state self.new.state }
         ensures calls { self.new.calls ≡ next_call self.old.calls }
@@ -434,7 +429,7 @@ impl<S: Socket> Connection<S> {
             connection: key,
             call: self.calls,
         };
-        if let Some(outcome) = self.state.ask(unsent, backend, token, light_load) {
+        if let Some(outcome) = self.state.ask(unsent, backend, token, load) {
             self.answer(alloc, backend, outcome);
         }
     }
@@ -463,13 +458,7 @@ impl<S: Socket> Connection<S> {
         for _step in 0..share.steps {
             match self.state.step(alloc, backend) {
                 Stepped::Goes => {}
-                Stepped::Calls(unsent) => self.submit(
-                    alloc,
-                    backend,
-                    unsent,
-                    key,
-                    share.light_load,
-                ),
+                Stepped::Calls(unsent) => self.submit(alloc, backend, unsent, key, share.load),
                 Stepped::Starved => {
                     self.more = false;
                     return;

@@ -14,14 +14,16 @@ ghost use Rattle.craq_event_loop.specs.Serving.{ReadsAt, Serves, WritesAt};
 use crate::backend::{Arrival, LoopBackend};
 use crate::connection::{Connection, Share};
 use crate::socket::Socket;
+use crate::traffic::ClientStream;
 use craq_completions::Completion;
+use craq_session::Load;
 use mio::event::{Event, Events};
 use mio::{Poll, Registry, Token, Waker};
 use slab::Slab;
 use std::alloc::{AllocError, Global};
 use std::mem;
-use std::net::{Net, TcpStream};
-use std::sync::{Arc, Wait};
+use std::net::Net;
+use std::sync::Wait;
 use std::time::Duration;
 
 /// The token under which the event loop is woken.
@@ -36,21 +38,27 @@ const MOST_EVENTS: usize = 256;
 /// The most connections that count as few.
 const LIGHT_LOAD: usize = 2;
 
-/// The most steps of a busy connection in a round. This project's profile.
-const MOST_STEPS: usize = 8;
+/// The most steps of a busy connection in a round: those of one request. This project's profile.
+const MOST_STEPS: usize = 2;
 
 /// The number of looks for work of an event loop with few connections before it sleeps: some 60
 /// microseconds.
 const MOST_LOOKS: u32 = 200;
 
-/// Returns the share of each busy connection in a round: 8 steps, of which a request takes 2. So a
-/// round is short, and a connection with one request waits little for others that have many.
+/// Returns the share of each busy connection in a round: 2 steps, which a request takes. So a
+/// connection that sends many requests at once holds up the others no longer than one that waits for
+/// each reply.
 fn share_of(busy: usize) -> Share
     ensures { result.steps ≡ most_steps }
 {
+    let load = if busy <= LIGHT_LOAD {
+        Load::Light
+    } else {
+        Load::Full
+    };
     Share {
         steps: MOST_STEPS,
-        light_load: busy <= LIGHT_LOAD,
+        load,
     }
 }
 
@@ -417,7 +425,7 @@ impl<S: Socket + Drop> Members<S> {
     }
 }
 
-impl Members<Arc<TcpStream>> {
+impl Members<ClientStream> {
     /// Takes a connection in, with room for its key in both lists. It is busy, to be read. Fails
     /// when out of memory, or where the system refuses it; then nothing changes but room.
     fn take_in(&mut self, registry: &Registry, arrival: Arrival) -> Result<(), AllocError>
@@ -510,7 +518,7 @@ impl Members<Arc<TcpStream>> {
 pub struct EventLoop {
     poll: Poll,
     events: Events,
-    members: Members<Arc<TcpStream>>,
+    members: Members<ClientStream>,
     ghost none: { HasNone members },
 }
 

@@ -7,7 +7,9 @@ mod connection;
 mod event_loop;
 mod laws;
 mod socket;
+mod traffic;
 
 pub use backend::{Arrival, LoopBackend};
 pub use event_loop::EventLoop;
-pub use laws::{completions_refuse_as_backends_may, each_call_has_its_number};
+pub use laws::each_call_has_its_number;
+pub use traffic::{ClientStream, Traffic};

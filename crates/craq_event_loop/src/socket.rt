@@ -4,13 +4,12 @@ ghost use Rattle.std.specs.Io.KnownBytes.{Appends, Consumes};
 ghost use Rattle.std.specs.IoError.{error_kind};
 ghost use Rattle.craq_event_loop.specs.Sockets.{moved_count, moved_of_count, moved_of_error};
 
+use crate::traffic::ClientStream;
 use mio::Registry;
 use mio::unix::SourceFd;
 use std::io;
 use std::io::{ErrorKind, Read, Write};
-use std::net::TcpStream;
 use std::os::fd::AsRawFd;
-use std::sync::Arc;
 
 /// The outcome of a read or a write of a socket.
 #[derive(Debug, Clone, Copy, PartialEq, Eq)]
@@ -83,7 +82,7 @@ fn moved_by(gone: io::Result<usize>) -> Moved
     }
 }
 
-impl Socket for Arc<TcpStream> {
+impl Socket for ClientStream {
     ghost remaining = { λ _. None };
 
     ghost contents = { λ _. None };
@@ -95,14 +94,22 @@ impl Socket for Arc<TcpStream> {
     ghost is_full = { λ _. ⊤ };
 
     fn take(&mut self, buffer: &mut [u8]) -> Moved {
-        moved_by((&**self).read(buffer))
+        let moved = moved_by((&*self.stream).read(buffer));
+        if let Moved::Bytes(count) = moved {
+            self.traffic.add_read(count);
+        }
+        moved
     }
 
     fn put(&mut self, bytes: &[u8]) -> Moved {
-        moved_by((&**self).write(bytes))
+        let moved = moved_by((&*self.stream).write(bytes));
+        if let Moved::Bytes(count) = moved {
+            self.traffic.add_written(count);
+        }
+        moved
     }
 
     fn leave(&self, registry: &Registry) {
-        let _ = registry.deregister(&mut SourceFd(&self.as_raw_fd()));
+        let _ = registry.deregister(&mut SourceFd(&self.stream.as_raw_fd()));
     }
 }

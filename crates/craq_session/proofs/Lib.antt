@@ -1,4 +1,5 @@
 pub mod Asked
+pub mod Completions
 pub mod ConnectionStates
 pub mod Halves
 pub mod Turning

@@ -1,13 +1,11 @@
 -- The reply that a request handler reports for a turn is a turn.
-use Rattle.std.proofs.Common.{◌≡◌, ◌∙◌, ℕ, ◌≤◌, List, length, Ok, Err, Result, IfErr, IfOk, OnErr, inl, inr, refl, sym, subst}
-use Rattle.std.proofs.lemmas.Result.{IfErr-weaker}
+use Rattle.std.proofs.Common.{◌≡◌, ◌∙◌, ℕ, List, Ok, Err, Result, IfErr, IfOk, OnErr, inl, inr, refl, sym, subst}
 use Rattle.craq_names.specs.declared.refusal.Refusal.{Refusal}
 use Rattle.craq_frames.specs.declared.ask.ClientMessage.{ClientMessage}
-use Rattle.craq_frames.specs.declared.ask.ClientMessage.TheVariants as messages
 use Rattle.craq_frames.specs.declared.answer.ClientReply.{ClientReply}
 use Rattle.craq_frames.specs.declared.answer.ClientReply.TheVariants as replies
 use Rattle.craq_seat.specs.Calls.{Called}
-use Rattle.craq_session.specs.Turns.{Refusing, or_memory_where, MayReplyRefused, IsAnswered, IsReplied, IsReported}
+use Rattle.craq_session.specs.Turns.{Refusing, MayReplyRefused, IsAnswered, IsReplied, IsReported}
 
 -- a reply that is no refusal is a turn
 replied : (tells : List ℕ → Type 0) (refuses : Refusing) (old : List Called) (m : ClientMessage) (r : ClientReply) (new : List Called) → IsReplied tells old m r new → IsAnswered tells refuses old m r new
@@ -30,18 +28,3 @@ reported_refusal tells refuses old m e reported new can same (inr other) = subst
 pub came_turn : (tells : List ℕ → Type 0) (refuses : Refusing) (old begun : List Called) (m : ClientMessage) (outcome : Result ClientReply Refusal) (reported : ClientReply) (new : List Called) → begun ≡ old → IfOk outcome (λ r. IsReplied tells begun m r new) → IfErr outcome (λ e. MayReplyRefused refuses m e) → OnErr outcome (new ≡ begun) → IsReported outcome reported → IsAnswered tells refuses old m reported new
 came_turn tells refuses old begun m (Ok r) reported new at came can same is = reported_turn tells refuses old m r reported new (subst (λ (x : List Called). IsReplied tells x m r new) at came) is
 came_turn tells refuses old begun m (Err e) reported new at came can same is = reported_refusal tells refuses old m e reported new can (same ∙ at) is
-
--- a refusal that is possible when out of memory in fewer cases is possible in more
-lacks_too : (P Q : Type 0) (refuses : Refusing) (m : ClientMessage) (e : Refusal) → (P → Q) → MayReplyRefused (or_memory_where P refuses) m e → MayReplyRefused (or_memory_where Q refuses) m e
-lacks_too P Q refuses (messages.Update node pass update) e more (inl is) = inl (is.0, more is.1)
-lacks_too P Q refuses (messages.Update node pass update) e more (inr is) = inr is
-lacks_too P Q refuses (messages.Read node pass mode object) e more (inl is) = inl (is.0, more is.1)
-lacks_too P Q refuses (messages.Read node pass mode object) e more (inr is) = inr is
-lacks_too P Q refuses messages.Status e more is = is
-
-pub all_lacks_too : (P Q : Type 0) (refuses : Refusing) (m : ClientMessage) (r : Result ClientReply Refusal) → (P → Q) → IfErr r (λ e. MayReplyRefused (or_memory_where P refuses) m e) → IfErr r (λ e. MayReplyRefused (or_memory_where Q refuses) m e)
-all_lacks_too P Q refuses m r more h = IfErr-weaker r _ _ (λ e is. lacks_too P Q refuses m e more is) h
-
--- a door that has no room as a turn has begun had none before
-pub begun_full : (a b : ℕ) (xs ys : List Called) → a ≡ b → xs ≡ ys → a ≤ length xs → b ≤ length ys
-begun_full a b xs ys at is h = subst (λ (x : ℕ). x ≤ length ys) at (subst (λ (x : List Called). a ≤ length x) is h)

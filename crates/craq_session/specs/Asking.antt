@@ -1,6 +1,8 @@
 -- A call that is asked and whose reply may come later, and its immediate outcome.
 use Rattle.std.specs.Prelude.{◌≡◌, Option, None, Some, Result, Ok, Err}
 use Rattle.craq_names.specs.declared.refusal.Refusal.{Refusal}
+use Rattle.craq_names.specs.declared.refusal.Refusal.TheVariants.{Closed}
+use Rattle.craq_model.specs.declared.ask.Ask.{Ask}
 use Rattle.craq_pending_calls.specs.Refused.{CanRefuse}
 use Rattle.craq_seat.specs.Calls.{Called}
 use Rattle.craq_session.specs.Turns.{Refusing}
@@ -31,3 +33,15 @@ IsRefusedAtOnce refuses q came = MayHaveAny refuses q
 abbrev pub IsAsked : Refusing → Submitting → Phase → Option (Result Called Refusal) → Type 0
 IsAsked refuses submits (phases.Waits q) came = submits q came × IsRefusedAtOnce refuses q came
 IsAsked refuses submits phase came = came ≡ None
+
+-- a call of this ask that came back refused is refused just so, where such an ask may be refused so; else what came back is
+-- another call's, and it is refused as Closed
+pub record IsRefusedAs (ask : Ask) (came reported : Refusal) : Type 0 where
+  pub same : CanRefuse ask came → reported ≡ came
+  pub closed : ¬ (CanRefuse ask came) → reported ≡ Closed
+  pub can : CanRefuse ask reported
+
+-- the outcome of a call by its completion: the receipt in it, or a refusal that this request can produce
+abbrev pub IsOutcomeOf : CallRequest → Result Called Refusal → Result Called Refusal → Type 0
+IsOutcomeOf q (Ok c) outcome = outcome ≡ Ok c
+IsOutcomeOf q (Err came) outcome = (reported : Refusal) × (outcome ≡ Err reported) × IsRefusedAs q.ask came reported

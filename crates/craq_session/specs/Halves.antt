@@ -78,11 +78,6 @@ pub record EndsTurn (q : CallRequest) (outcome : Result Called Refusal) (old : L
   pub answered : IsAnswered tells_none (λ node pass ask e. RefusesCall q outcome e) old (asked_by q) reported new
   pub closed : (reported ≡ replies.Refused Closed) ↔ IsClosed q outcome
 
--- a call comes back: with the receipt of just this call, or refused as it may be
-abbrev pub ComesBack : Refusing → CallRequest → Result Called Refusal → Type 0
-ComesBack refuses q (Ok c) = IsCallOf q.node q.ask q.pass c.answer c
-ComesBack refuses q (Err e) = refuses q.node q.pass q.ask e
-
 -- each refusal of a call that came back so is one that it may have
 abbrev pub IsRefusable : Refusing → CallRequest → Result Called Refusal → Type 0
 IsRefusable refuses q outcome = (e : Refusal) → RefusesCall q outcome e → refuses q.node q.pass q.ask e

@@ -60,10 +60,6 @@ Refusing = NodeName → ℕ → Ask → Refusal → Type 0
 abbrev pub for_memory : Refusing
 for_memory node pass ask e = e ≡ Memory
 
--- refuses also when out of memory
-abbrev pub or_memory : Refusing → Refusing
-or_memory refuses node pass ask e = (e ≡ Memory) ⊎ refuses node pass ask e
-
 -- refuses also when out of memory, where this holds
 abbrev pub or_memory_where : Type 0 → Refusing → Refusing
 or_memory_where lacks refuses node pass ask e = ((e ≡ Memory) × lacks) ⊎ refuses node pass ask e

@@ -5,7 +5,7 @@ ghost use Rattle.craq_session.specs.declared.connection_state.Phase.TheVariants.
 ghost use Rattle.craq_session.specs.ConnectionStates.{KeepsRoom};
 
 use crate::phases::{advance, answered};
-use crate::{AsyncBackend, Backend, CallRequest, DoorCalls, UnsentCall};
+use crate::{AsyncBackend, Backend, CallRequest, DoorCalls, Load, UnsentCall};
 use craq_completions::Token;
 use craq_frames::ClientMessage;
 use craq_front::ProtocolCodec;
@@ -177,15 +177,14 @@ impl ConnectionState {
 
     /// Makes the call that is under way, under this token. Returns its outcome at once, a receipt
     /// or a refusal; else `None`, and a completion with this token will come
-    /// (`AsyncBackend::submit`). Where no call is under way none is made. `light_load` says that
-    /// few connections are busy.
+    /// (`AsyncBackend::submit`). Where no call is under way none is made.
     #[tactic(auto, using(crate::proofs::Asked::asked_and_waits, crate::proofs::Asked::asked_and_answered, crate::proofs::Asked::asked_and_refused))]
     pub fn ask<T: AsyncBackend>(
         &self,
         unsent: UnsentCall,
         taker: &T,
         token: Token,
-        light_load: bool,
+        load: Load,
     ) -> Option<Result<CallReceipt, Refusal>>
         ensures { IsAsked (T.refuses taker.now) (T.submits taker.now token) self.now.phase result }
     {
@@ -193,7 +192,7 @@ impl ConnectionState {
         let Phase::Waits(request) = &self.phase else {
             return None;
         };
-        match taker.submit(submit_token, request, token, light_load) {
+        match taker.submit(submit_token, request, token, load) {
             Ok(None) => None,
             Ok(Some(receipt)) => Some(Ok(receipt)),
             Err(refusal) => Some(Err(refusal)),

@@ -1,20 +1,20 @@
-//! The request handlers of a served store: `CallDoor`, which waits for each call of its backend
+//! The request handlers of a served store, over one backend: `CallDoor`, which waits for each call
 //! (`BlockingBackend`), and `ConnectionState`, whose calls are answered later (`AsyncBackend`).
-//! Code that runs in the programs.
+//! Both begin and end a request by the same two halves. Code that runs in the programs.
 #![tactic(auto)]
 
 mod asking;
+mod backend;
 mod call_request;
 mod calls;
 mod connection_state;
 mod door;
-mod laws;
 mod phases;
 mod telling;
 
-pub use asking::{AsyncBackend, SubmitToken, UnsentCall};
+pub use asking::{Load, SubmitToken, UnsentCall, outcome_of_completion};
+pub use backend::{AsyncBackend, Backend, BlockingBackend};
 pub use call_request::CallRequest;
 pub use calls::DoorCalls;
 pub use connection_state::{ConnectionState, Ending, Stepped};
-pub use door::{Backend, BlockingBackend, CallDoor};
-pub use laws::halves_are_a_turn;
+pub use door::CallDoor;

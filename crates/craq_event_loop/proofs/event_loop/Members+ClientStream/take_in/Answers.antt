@@ -3,7 +3,7 @@ use Rattle.slab.specs.Slab.{get, slab_len}
 use Rattle.craq_event_loop.proofs.Busy.{behind_same, listed_grown}
 use Rattle.craq_event_loop.proofs.Coming.{behind_taken, listed_more_room, same_len, same_slots, same_values}
 use Rattle.craq_event_loop.proofs.Marks.{key_comes}
-use Rattle.craq_event_loop.proofs.event_loop.Members+Arc+TcpStream.take_in.Goals as goal
+use Rattle.craq_event_loop.proofs.event_loop.Members+ClientStream.take_in.Goals as goal
 
 pub returns-in_err-reserve-3-clause-kept : goal.returns-in_err-reserve-3-clause-kept
 returns-in_err-reserve-3-clause-kept c k = record {

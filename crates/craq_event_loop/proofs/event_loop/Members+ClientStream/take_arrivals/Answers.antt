@@ -1,5 +1,5 @@
 use Rattle.craq_event_loop.proofs.Coming.{stays_either}
-use Rattle.craq_event_loop.proofs.event_loop.Members+Arc+TcpStream.take_arrivals.Goals as goal
+use Rattle.craq_event_loop.proofs.event_loop.Members+ClientStream.take_arrivals.Goals as goal
 
 pub loop-init : goal.loop-init
 loop-init g c = λ k. (k, λ key one here. here)

@@ -3,12 +3,10 @@ use Rattle.std.proofs.Common.{Result, Ok, Err, inl, inr, sym, subst}
 use Rattle.craq_names.specs.declared.refusal.Refusal.{Refusal}
 use Rattle.craq_pending_calls.specs.Refused.{CanRefuse}
 use Rattle.craq_seat.specs.Calls.{Called}
+use Rattle.craq_session.specs.Asking.{IsOutcomeOf, MayHaveAny}
 use Rattle.craq_session.specs.Halves.{CanComeBack, IsRefusable}
 use Rattle.craq_session.specs.Turns.{Refusing}
-use Rattle.craq_session.specs.declared.connection_state.Phase.TheVariants.{Waits}
 use Rattle.craq_session.specs.declared.call_request.CallRequest.{CallRequest}
-use Rattle.craq_session.specs.Asking.{MayHaveAny}
-use Rattle.craq_event_loop.specs.Completions.{IsOutcome}
 
 -- an answer that came back may be refused as any ask may be
 answer_refusable : (refuses : Refusing) (q : CallRequest) (e : Refusal) → MayHaveAny refuses q → CanComeBack e → refuses q.node q.pass q.ask e
@@ -24,7 +22,7 @@ pub refusal_refusable : (refuses : Refusing) (q : CallRequest) (came : Refusal) 
 refusal_refusable refuses q came may e is = subst (λ (x : Refusal). refuses q.node q.pass q.ask x) (sym is) may
 
 -- a completion that came
-pub completion_refusable : (refuses : Refusing) (q : CallRequest) (reply outcome : Result Called Refusal) → MayHaveAny refuses q → IsOutcome (Waits q) reply outcome → IsRefusable refuses q outcome
+pub completion_refusable : (refuses : Refusing) (q : CallRequest) (reply outcome : Result Called Refusal) → MayHaveAny refuses q → IsOutcomeOf q reply outcome → IsRefusable refuses q outcome
 completion_refusable refuses q (Ok c) outcome may is = subst (λ (x : Result Called Refusal). IsRefusable refuses q x) (sym is) (receipt_refusable refuses q c may)
 completion_refusable refuses q (Err came) outcome may h =
     subst (λ (x : Result Called Refusal). IsRefusable refuses q x) (sym h.1) (refusal_refusable refuses q h.0 (may h.0 h.2.can))

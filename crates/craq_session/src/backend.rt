@@ -1,0 +1,63 @@
+//! `Backend`, `AsyncBackend` and `BlockingBackend`: what the connections of a server call; the
+//! served store is one.
+ghost use Rattle.std.specs.Prelude.{ℕ, IfErr, IfOk, List, Option, Result};
+ghost use Rattle.craq_completions.specs.declared.token.Token.{Token};
+ghost use Rattle.craq_model.specs.declared.ask.Ask.{Ask};
+ghost use Rattle.craq_names.specs.declared.name.NodeName.{NodeName};
+ghost use Rattle.craq_names.specs.declared.refusal.Refusal.{Refusal};
+ghost use Rattle.craq_seat.specs.Calls.{Called};
+ghost use Rattle.craq_session.specs.Asking.{MayHaveAny, at_once};
+ghost use Rattle.craq_session.specs.declared.call_request.CallRequest.{CallRequest};
+
+use crate::{CallRequest, Load, SubmitToken};
+use craq_completions::{Outcome, Token};
+use craq_frames::Text;
+use craq_names::Refusal;
+use craq_seat::CallReceipt;
+use std::alloc::AllocError;
+
+/// A backend that connections call, however they call it.
+pub trait Backend {
+    /// The texts of a status that it may give.
+    ghost tells: { Self → List ℕ → Type 0 };
+
+    /// The refusals that it may give to a call of a node with a pass.
+    ghost refuses: { Self → NodeName → ℕ → Ask → Refusal → Type 0 };
+
+    /// Returns the chains and their members as text. Fails only when out of memory.
+    fn status(&self) -> Result<Text, AllocError>
+        ensures { IfOk result (λ text. tells self.now text) };
+}
+
+/// A backend that takes a call without waiting: its outcome comes at once, or later by a
+/// completion.
+pub trait AsyncBackend: Backend {
+    /// The calls that were asked of it, each with its token and its outcome at once, if there was
+    /// one.
+    ghost submits: { Self → Token → CallRequest → Option (Result Called Refusal) → Type 0 };
+
+    /// Makes the call of a question. Returns its receipt where it is answered at once; else `None`,
+    /// and a completion with this token will come. No other call may have the token until then.
+    ///
+    /// Refused only as this backend may refuse the call, and no completion comes then. A call that
+    /// is not refused at once may be refused later with any refusal of its kind of request.
+    fn submit(
+        &self,
+        submit_token: SubmitToken,
+        request: &CallRequest,
+        token: Token,
+        load: Load,
+    ) -> Result<Option<CallReceipt>, Refusal>
+        ensures refused { IfErr result (λ e. Self.refuses self.now request.now.node request.now.pass request.now.ask e) }
+        ensures asked { IfOk result (λ _. MayHaveAny (Self.refuses self.now) request.now) }
+        ensures submitted { submits self.now token request.now (at_once result) };
+
+    /// Notes that a call of the connection at this place is refused.
+    fn refused(&self, slot: usize, refusal: Refusal);
+}
+
+/// A backend of one connection, which can wait for the completion of its call.
+pub trait BlockingBackend: AsyncBackend + Drop {
+    /// Waits for the completion of the call that was submitted last, and returns its reply.
+    fn wait(&self) -> Outcome;
+}

@@ -3,13 +3,17 @@
 ghost use Rattle.std.specs.Prelude.{◌≡◌, ◌⊎◌, [], false, IfErr, IfOk};
 
 use crate::connections::Connections;
+use crate::counters::Share;
 use crate::io_threads::{EventLoops, serve_by_threads};
 use crate::listening::{Attempt, try_accept, wait_for_connection};
 use crate::logging::Log;
+use crate::metered::Metered;
 use crate::passes::Passes;
 use crate::runtime::ServerRuntime;
-use crate::served_store::{ServedStore, Visit};
+use crate::served_store::ServedStore;
 use crate::socket_options::prepare;
+use craq_completions::CompletionQueue;
+use craq_event_loop::ClientStream;
 use craq_front::{Stream, serve};
 use craq_names::Refusal;
 use craq_node::Core;
@@ -18,7 +22,6 @@ use craq_session::CallDoor;
 use craq_workers::{Gate, Store};
 use std::alloc::{AllocError, Global};
 use std::net::{TcpListener, TcpStream};
-use std::sync::atomic::{AtomicU64, Ordering};
 use std::sync::{Arc, Mutex, Wait};
 use std::thread;
 use std::thread::Scope;
@@ -95,8 +98,6 @@ pub(crate) struct Server<'a, R, C: Core, G: Gate> {
     pub(crate) connections: &'a Connections,
     /// The passes that were returned on all connections.
     pub(crate) passes: Passes,
-    /// The number of connections that were turned away.
-    turned_away: AtomicU64,
     /// The receipts of each connection that has ended, by order of connection; none of those that
     /// have not.
     receipts: Mutex<Vec<Vec<CallReceipt>>>,
@@ -120,6 +121,7 @@ where
     /// Logs that a connection is over, and frees its place.
     fn leave(&self, slot: usize) {
         self.serving.log.ended(&self.rt, slot);
+        self.connections.counters.count_ended();
         self.connections.leave(&self.rt, slot);
     }
 
@@ -153,7 +155,6 @@ where
             serving,
             connections,
             passes: Passes::new(serving.most_leap),
-            turned_away: AtomicU64::new(0),
             receipts: Mutex::new(Vec::new(alloc)),
         }
     }
@@ -211,11 +212,11 @@ where
         let stream = Arc::new(self.alloc, stream)?;
         let shared = Arc::try_clone(&stream)?;
         let Some(slot) = self.connections.enter(&self.rt, shared)? else {
-            let count = self.turned_away.fetch_add(1, Ordering::SeqCst);
-            let count = count.saturating_add(1);
+            let count = self.connections.counters.count_turned_away();
             self.serving.log.turned_away(&self.rt, &stream, count);
             return Ok(None);
         };
+        self.connections.counters.count_accepted();
         self.serving.log.begun(&self.rt, slot, &stream);
         Ok(Some((stream, slot)))
     }
@@ -235,38 +236,56 @@ where
         begun
     }
 
-    /// Returns the store as the request handlers of connections call it.
-    pub(crate) fn backend(&self) -> ServedStore<'_, R, C, G> {
-        ServedStore {
+    /// Returns the store as the connections of one thread call it, with the thread's completion
+    /// queue and its share of the counts. Fails only when out of memory.
+    pub(crate) fn backend(
+        &self,
+        completions: CompletionQueue,
+        share: Arc<Share>,
+    ) -> Result<ServedStore<'_, R, C, G>, AllocError> {
+        Ok(ServedStore {
             rt: self.rt,
             alloc: self.alloc,
             store: self.store,
             passes: &self.passes,
-        }
+            log: self.serving.log,
+            completions: Arc::new(self.alloc, completions)?,
+            share,
+        })
     }
 
     /// Serves a client to the end of its stream. Returns the receipts of its calls, where they are
     /// kept.
-    fn serve_client(&self, stream: &TcpStream, slot: usize) -> Vec<CallReceipt> {
-        let _ = stream.set_nodelay(true);
-        set_patience(stream, self.serving.idle);
-        let mut reader = Stream::new(stream);
-        let mut writer = Stream::new(stream);
-        let visit = Visit {
-            backend: self.backend(),
-            log: self.serving.log,
-            slot,
+    fn serve_client(
+        &self,
+        backend: ServedStore<'_, R, C, G>,
+        client: &ClientStream,
+        slot: usize,
+    ) -> Vec<CallReceipt> {
+        let _ = client.stream.set_nodelay(true);
+        set_patience(&client.stream, self.serving.idle);
+        let metered = Metered {
+            stream: &client.stream,
+            traffic: &client.traffic,
         };
-        let mut door = CallDoor::new(self.alloc, visit, self.serving.keep_receipts);
+        let mut reader = Stream::new(metered);
+        let mut writer = Stream::new(metered);
+        let mut door = CallDoor::new(self.alloc, backend, slot, self.serving.keep_receipts);
         let _ = serve(self.alloc, &mut reader, &mut writer, &mut door);
         door.calls.into_receipts()
     }
 
     /// Serves a connection to its end, hands its receipts over and frees its place.
-    fn attend(&self, stream: Arc<TcpStream>, slot: usize, receipts: usize) {
-        let calls = self.serve_client(&stream, slot);
+    fn attend(
+        &self,
+        backend: ServedStore<'_, R, C, G>,
+        client: ClientStream,
+        slot: usize,
+        receipts: usize,
+    ) {
+        let calls = self.serve_client(backend, &client, slot);
         self.ended(slot, receipts, calls);
-        drop(stream);
+        drop(client);
     }
 
     /// Begins a thread that serves a connection. Fails where there is no thread or no memory.
@@ -277,7 +296,12 @@ where
         slot: usize,
     ) -> Result<(), AllocError> {
         let receipts = self.new_receipts()?;
-        let thread = scope.spawn(move || self.attend(stream, slot, receipts))?;
+        let share = self.connections.counters.share(slot)?;
+        let traffic = Arc::try_clone(&share.traffic)?;
+        let client = ClientStream { stream, traffic };
+        let completions = CompletionQueue::new(self.alloc, None);
+        let backend = self.backend(completions, share)?;
+        let thread = scope.spawn(move || self.attend(backend, client, slot, receipts))?;
         drop(thread);
         Ok(())
     }
@@ -339,7 +363,6 @@ where
             serving: _,
             connections: _,
             passes: _,
-            turned_away: _,
             receipts,
         } = self;
         receipts.into_inner()

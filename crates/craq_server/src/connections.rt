@@ -1,6 +1,7 @@
 //! `Connections`: the open connections of a server, each at a place, and the server's progress.
 //! Shared by `accept`, the threads that serve them, and those that wait for the server or end it.
 use crate::connection_slots::ConnectionSlots;
+use crate::counters::{Counters, Counts};
 use std::alloc::{AllocError, Global};
 use std::net::{Shutdown, TcpStream};
 use std::sync::{Arc, Condvar, Mutex, Wait};
@@ -27,6 +28,8 @@ pub struct Connections {
     slots: Mutex<ConnectionSlots>,
     /// True where there are never more places than at first.
     is_bounded: bool,
+    /// The counts of all connections.
+    pub(crate) counters: Counters,
 }
 
 impl Connections {
@@ -44,7 +47,13 @@ impl Connections {
             changed: Condvar::new(),
             slots: Mutex::new(slots),
             is_bounded: most > 0,
+            counters: Counters::new(alloc)?,
         })
+    }
+
+    /// Returns the number of connections, requests, refusals and bytes so far.
+    pub fn counts(&self) -> Counts {
+        self.counters.counts()
     }
 
     /// Returns whether the server is to end.

@@ -6,12 +6,12 @@ use crate::accepting::{Next, Server, Serving, Taken};
 use crate::runtime::ServerRuntime;
 use crate::served_store::ServedStore;
 use craq_completions::{Completion, CompletionQueue, Token};
-use craq_event_loop::{Arrival, EventLoop, LoopBackend};
+use craq_event_loop::{Arrival, ClientStream, EventLoop, LoopBackend};
 use craq_frames::Text;
 use craq_names::Refusal;
 use craq_node::Core;
 use craq_seat::CallReceipt;
-use craq_session::{AsyncBackend, Backend, CallRequest, SubmitToken};
+use craq_session::{AsyncBackend, Backend, CallRequest, Load, SubmitToken};
 use craq_workers::{Gate, Store};
 use std::alloc::{AllocError, Global};
 use std::net::{Net, TcpListener, TcpStream};
@@ -25,7 +25,6 @@ use std::thread::Scope;
 struct IoContext<'s, 'a, R: Wait, C: Core, G: Gate> {
     server: &'s Server<'a, R, C, G>,
     backend: ServedStore<'s, R, C, G>,
-    completions: Arc<CompletionQueue>,
     /// The connections that were handed to the thread and are not taken in yet.
     inbox: Mutex<Vec<Arrival>>,
     /// True where no more connections are handed to it.
@@ -70,11 +69,13 @@ where
         submit_token: SubmitToken,
         request: &CallRequest,
         token: Token,
-        light_load: bool,
+        load: Load,
     ) -> Result<Option<CallReceipt>, Refusal> {
-        drop(submit_token);
-        self.backend
-            .submit(request, &self.completions, token, light_load)
+        self.backend.submit(submit_token, request, token, load)
+    }
+
+    fn refused(&self, slot: usize, refusal: Refusal) {
+        self.backend.refused(slot, refusal);
     }
 }
 
@@ -91,7 +92,7 @@ where
     ghost lets_sleep = { λ context may. ⊤ };
 
     fn take_completions(&self, into: &mut Vec<Completion>) {
-        self.completions.take(&self.server.rt, into);
+        self.backend.completions.take(&self.server.rt, into);
         for completion in into.iter() {
             if let Ok(receipt) = &completion.reply {
                 self.backend.reported(receipt);
@@ -108,7 +109,7 @@ where
     }
 
     fn may_sleep(&self) -> bool {
-        self.completions.may_sleep(&self.server.rt)
+        self.backend.completions.may_sleep(&self.server.rt)
     }
 
     fn seconds(&self) -> u64 {
@@ -119,13 +120,6 @@ where
         self.latest
             .fetch_max(reported, Ordering::SeqCst)
             .max(reported)
-    }
-
-    fn refused(&self, slot: usize, refusal: Refusal) {
-        self.server
-            .serving
-            .log
-            .refused(&self.server.rt, slot, refusal);
     }
 
     fn ended(&self, slot: usize, receipts: usize, calls: Vec<CallReceipt>) {
@@ -139,14 +133,18 @@ where
     C: Core + Send + 'static,
     G: Gate + Send + Sync + 'static,
 {
-    /// Makes the context of a thread with this event loop. Fails when out of memory, or if the
-    /// system refuses a wake-up.
-    fn new(server: &'s Server<'a, R, C, G>, event_loop: EventLoop) -> Result<Self, AllocError> {
+    /// Makes the context of the thread of this index with this event loop. Fails when out of
+    /// memory, or if the system refuses a wake-up.
+    fn new(
+        server: &'s Server<'a, R, C, G>,
+        event_loop: EventLoop,
+        index: usize,
+    ) -> Result<Self, AllocError> {
         let completions = CompletionQueue::new(server.alloc, Some(event_loop.waker()?));
+        let share = server.connections.counters.share(index)?;
         Ok(IoContext {
             server,
-            backend: server.backend(),
-            completions: Arc::new(server.alloc, completions)?,
+            backend: server.backend(completions, share)?,
             inbox: Mutex::new(Vec::new(server.alloc)),
             over: AtomicBool::new(false),
             event_loop: Mutex::new(Some(event_loop)),
@@ -157,13 +155,14 @@ where
     /// Hands a connection to the thread and wakes it. Fails only when out of memory.
     fn hand(&self, stream: Arc<TcpStream>, slot: usize) -> Result<(), AllocError> {
         let receipts = self.server.new_receipts()?;
+        let traffic = Arc::try_clone(&self.backend.share.traffic)?;
         let arrival = Arrival {
-            stream,
+            stream: ClientStream { stream, traffic },
             slot,
             receipts,
         };
         self.inbox.lock(&self.server.rt).push(arrival)?;
-        self.completions.nudge(&self.server.rt);
+        self.backend.completions.nudge(&self.server.rt);
         Ok(())
     }
 
@@ -180,7 +179,7 @@ where
     /// Has the thread end once its connections are over.
     fn end(&self) {
         self.over.store(true, Ordering::SeqCst);
-        self.completions.nudge(&self.server.rt);
+        self.backend.completions.nudge(&self.server.rt);
     }
 }
 
@@ -345,8 +344,8 @@ where
     G: Gate + Send + Sync + 'static,
 {
     let mut all = Vec::new(server.alloc);
-    for event_loop in event_loops {
-        all.push(IoContext::new(server, event_loop)?)?;
+    for (index, event_loop) in event_loops.into_iter().enumerate() {
+        all.push(IoContext::new(server, event_loop, index)?)?;
     }
     let contexts = IoContexts { server, all };
     contexts.serve_all(listener)

@@ -5,9 +5,11 @@
 mod accepting;
 mod connection_slots;
 mod connections;
+mod counters;
 mod io_threads;
 mod listening;
 mod logging;
+mod metered;
 mod passes;
 mod runtime;
 mod served_store;
@@ -16,7 +18,9 @@ mod status;
 
 pub use accepting::{ServeReport, Serving, accept, accept_with};
 pub use connections::Connections;
+pub use counters::{Counts, REFUSALS};
 pub use io_threads::EventLoops;
+pub use listening::{Attempt, try_accept, wait_for_connection};
 pub use logging::Log;
 pub use runtime::ServerRuntime;
 pub use status::status_text;

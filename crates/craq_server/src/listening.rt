@@ -1,5 +1,5 @@
 //! One try to accept a connection of a listener that does not block, and a bounded wait before it;
-//! called by `accepting`.
+//! called by `accepting`, and by `craqd` for its second listener.
 ghost use Rattle.std.specs.Prelude.{◌↔◌, IsTrue};
 ghost use Rattle.craq_server.specs.Listening.{Lasts};
 
@@ -18,7 +18,7 @@ const EOPNOTSUPP: i32 = 95;
 
 /// The outcome of a try to accept a connection.
 #[derive(Drop)]
-pub(crate) enum Attempt {
+pub enum Attempt {
     /// A connection.
     Connection(TcpStream),
     /// No connection has come yet.
@@ -31,7 +31,7 @@ pub(crate) enum Attempt {
 
 /// Waits until the listener has a connection or an error to give, for at most 100 milliseconds.
 /// Returns false where the system refused to wait.
-pub(crate) fn wait_for_connection(listener: &TcpListener) -> bool {
+pub fn wait_for_connection(listener: &TcpListener) -> bool {
     let mut polled = [pollfd {
         fd: listener.as_raw_fd(),
         events: net::POLLIN,
@@ -61,7 +61,7 @@ fn attempt_of_error(error: io::Error) -> Attempt {
 }
 
 /// Tries once to accept a connection of a listener that does not block.
-pub(crate) fn try_accept(listener: &TcpListener) -> Attempt {
+pub fn try_accept(listener: &TcpListener) -> Attempt {
     match listener.accept() {
         Ok((stream, _)) => Attempt::Connection(stream),
         Err(error) => attempt_of_error(error),

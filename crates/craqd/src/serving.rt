@@ -7,8 +7,9 @@ use crate::closing::{watch_control, watch_input};
 use crate::controlling::run_lines;
 use crate::fault::Fault;
 use crate::line_slot::LineSlot;
+use crate::pages::Pages;
 use crate::plans::plan_of;
-use crate::telling::tell_serving;
+use crate::telling::{Ports, tell_serving};
 use crate::ticking::tick_chains;
 use craq_cli::Line;
 use craq_compact_history::ListCore;
@@ -16,7 +17,7 @@ use craq_server::{Connections, EventLoops, Log, ServeReport as Accepted, Serving
 use craq_workers::{OpenGate, Store};
 use std::alloc::AllocError;
 use std::io::{ErrorKind, Input, StdinLock};
-use std::net::{Net, SocketAddr, TcpListener, TcpStream};
+use std::net::{Net, TcpListener, TcpStream};
 use std::rt::Files;
 use std::sync::atomic::{AtomicBool, Ordering};
 use std::sync::{Arc, Wait};
@@ -39,9 +40,31 @@ where
     }
 }
 
+/// Listens for requests for metrics, if the command line asks for that.
+fn listen_for_metrics<R>(rt: &R, line: &Line<'_>) -> Result<Option<TcpListener>, Fault>
+where
+    R: Net<Listener = TcpListener, Stream = TcpStream>,
+{
+    let Some(address) = line.metrics else {
+        return Ok(None);
+    };
+    let listener = listen(rt, address)?;
+    match listener.set_nonblocking(true) {
+        Ok(()) => Ok(Some(listener)),
+        Err(_) => Err(Fault::CannotListen),
+    }
+}
+
+/// Returns the port of a listener, if the system tells it.
+fn port_of(listener: &TcpListener) -> Option<u16> {
+    match listener.local_addr() {
+        Ok(address) => Some(address.port()),
+        Err(_) => None,
+    }
+}
+
 /// Prints the port that clients can connect to.
-fn print_port<R: Print>(rt: &R, address: SocketAddr) -> Result<(), Fault> {
-    let port = address.port();
+fn print_port<R: Print>(rt: &R, port: u16) -> Result<(), Fault> {
     println!(rt; "listening {port}")?;
     Ok(())
 }
@@ -59,10 +82,12 @@ struct Service<'s, R: Wait> {
     rt: R,
     store: &'s RunningStore,
     listener: &'s TcpListener,
-    address: SocketAddr,
+    port: u16,
     connections: &'s Connections,
     /// The slot of its control lines, where it takes any.
     slot: Option<&'s LineSlot>,
+    /// The pages of its metrics, where it serves them.
+    pages: Option<&'s Pages<'s, R>>,
     /// True where the server is over.
     over: AtomicBool,
 }
@@ -108,7 +133,7 @@ where
         if !self.connections.wait_for_begin(&self.rt) {
             return Ok(());
         }
-        let printed = print_port(&self.rt, self.address);
+        let printed = print_port(&self.rt, self.port);
         if printed.is_err() {
             self.connections.end(&self.rt);
             self.connections.cut(&self.rt);
@@ -129,16 +154,24 @@ where
         }
     }
 
-    /// Starts the thread that ticks the store and, where the server takes control lines, the one
-    /// that runs them. Fails where there is no thread; those that were started end by `release`.
+    /// Serves the pages of its metrics, until the server is over.
+    fn show(&self) {
+        if let Some(pages) = self.pages {
+            pages.serve(&self.over);
+        }
+    }
+
+    /// Starts the thread that ticks the store and, where the server takes control lines or serves
+    /// metrics, the ones that do. Fails where there is no thread; those that were started end by
+    /// `release`.
     fn start_threads<'e, E>(&'e self, scope: &Scope<'e, E>) -> Result<(), Fault> {
         if scope.spawn(move || self.tick()).is_err() {
             return Err(Fault::Memory);
         }
-        if self.slot.is_none() {
-            return Ok(());
+        if self.slot.is_some() && scope.spawn(move || self.control()).is_err() {
+            return Err(Fault::Memory);
         }
-        if scope.spawn(move || self.control()).is_err() {
+        if self.pages.is_some() && scope.spawn(move || self.show()).is_err() {
             return Err(Fault::Memory);
         }
         Ok(())
@@ -259,12 +292,52 @@ fn slot_of<'s>(line: &Line<'_>, parts: InputParts<'s>) -> Option<&'s LineSlot> {
     if line.control { Some(parts.slot) } else { None }
 }
 
+/// The listeners of a server: that of clients, and that of metrics where it serves them.
+#[derive(Clone, Copy)]
+struct Listeners<'s> {
+    clients: &'s TcpListener,
+    metrics: Option<&'s TcpListener>,
+}
+
+impl Listeners<'_> {
+    /// Returns the ports; `CannotListen` if the system does not tell one.
+    fn ports(&self) -> Result<Ports, Fault> {
+        let Some(clients) = port_of(self.clients) else {
+            return Err(Fault::CannotListen);
+        };
+        let Some(listener) = self.metrics else {
+            return Ok(Ports {
+                clients,
+                metrics: None,
+            });
+        };
+        match port_of(listener) {
+            None => Err(Fault::CannotListen),
+            metrics => Ok(Ports { clients, metrics }),
+        }
+    }
+}
+
+/// Returns the pages of a server's metrics, where it serves them.
+fn pages_of<'s, R>(
+    rt: R,
+    store: &'s RunningStore,
+    listeners: Listeners<'s>,
+    connections: &'s Connections,
+) -> Option<Pages<'s, R>>
+where
+    R: AllocGlobal + Clock + Threads + Wait + Copy + Drop + Send + Sync + 'static,
+{
+    let listener = listeners.metrics?;
+    Some(Pages::new(rt, store, connections, listener))
+}
+
 /// Serves the connections of a listener to a store as a command line asks for.
-fn serve_listener<'s, R>(
+fn serve_listeners<'s, R>(
     rt: R,
     store: &'s RunningStore,
     line: &Line<'_>,
-    listener: &'s TcpListener,
+    listeners: Listeners<'s>,
     parts: InputParts<'s>,
 ) -> Result<(), Fault>
 where
@@ -272,23 +345,24 @@ where
     R: Threads + Wait + Copy + Drop + Send + Sync + 'static,
     R: Net<Listener = TcpListener, Stream = TcpStream>,
 {
-    let Ok(address) = listener.local_addr() else {
-        return Err(Fault::CannotListen);
-    };
+    let ports = listeners.ports()?;
     watch(rt, line, parts)?;
-    tell_serving(&rt, store, line, address.port())?;
+    tell_serving(&rt, store, line, ports)?;
     let event_loops = EventLoops::new(&rt, rt.alloc(), serving_of(line))?;
+    let pages = pages_of(rt, store, listeners, parts.connections);
     let service = Service {
         rt,
         store,
-        listener,
-        address,
+        listener: listeners.clients,
+        port: ports.clients,
         connections: parts.connections,
         slot: slot_of(line, parts),
+        pages: pages.as_ref(),
         over: AtomicBool::new(false),
     };
     let accepted = service.run_service(event_loops);
     drop(service);
+    drop(pages);
     finish(&rt, store, accepted?)
 }
 
@@ -302,11 +376,16 @@ where
     let connections = Arc::new(rt.alloc(), Connections::new(rt.alloc(), line.most)?)?;
     let slot = Arc::new(rt.alloc(), LineSlot::new())?;
     let listener = listen(&rt, line.address)?;
+    let metrics = listen_for_metrics(&rt, line)?;
+    let listeners = Listeners {
+        clients: &listener,
+        metrics: metrics.as_ref(),
+    };
     let parts = InputParts {
         connections: &connections,
         slot: &slot,
     };
-    serve_listener(rt, store, line, &listener, parts)
+    serve_listeners(rt, store, line, listeners, parts)
 }
 
 /// Returns how the chains' work is done: by a thread for each chain where a few threads serve all

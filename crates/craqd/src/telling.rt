@@ -39,6 +39,23 @@ const fn has_end(line: &Line<'_>) -> bool
     line.connections > 0 || line.until_input_ends
 }
 
+/// The ports that a server listens on.
+#[derive(Clone, Copy, Debug)]
+pub struct Ports {
+    /// That of clients.
+    pub clients: u16,
+    /// That of the metrics, if they are served.
+    pub metrics: Option<u16>,
+}
+
+/// Adds the port of the metrics, if they are served.
+fn push_metrics(text: &mut String, port: Option<u16>) -> Result<(), AllocError> {
+    match port {
+        Some(port) => write!(text, ", metrics on port {port}"),
+        None => Ok(()),
+    }
+}
+
 /// Adds how connections are served, and whether journals are kept.
 fn push_way(text: &mut String, line: &Line<'_>) -> Result<(), AllocError> {
     let (threads, most, idle) = (line.threads, line.most, line.idle);
@@ -61,22 +78,23 @@ fn push_way(text: &mut String, line: &Line<'_>) -> Result<(), AllocError> {
 }
 
 /// Returns what a command line serves: the plan file, the address with its port, the chains and
-/// their nodes, how connections are served, and whether journals are kept. Fails only when out of
-/// memory.
+/// their nodes, how connections are served, whether journals are kept, and the port of metrics.
+/// Fails only when out of memory.
 fn served_text(
     alloc: Global,
     line: &Line<'_>,
     chains: &[ChainStatus],
-    port: u16,
+    ports: Ports,
 ) -> Result<String, AllocError> {
     let mut text = String::new(alloc);
-    let (plan, address) = (line.plan, line.address);
+    let (plan, address, port) = (line.plan, line.address, ports.clients);
     write!(
         text,
         "craqd {VERSION} serves {plan} at {address}, port {port}:"
     )?;
     push_chains(&mut text, chains)?;
     push_way(&mut text, line)?;
+    push_metrics(&mut text, ports.metrics)?;
     Ok(text)
 }
 
@@ -86,10 +104,10 @@ pub fn tell_serving<R: AllocGlobal + Eprint + Wait>(
     rt: &R,
     store: &RunningStore,
     line: &Line<'_>,
-    port: u16,
+    ports: Ports,
 ) -> Result<(), AllocError> {
     let chains = store.status(rt)?;
-    let text = served_text(rt.alloc(), line, chains.as_slice(), port);
+    let text = served_text(rt.alloc(), line, chains.as_slice(), ports);
     drop(chains);
     let text = text?;
     let text = text.as_str();

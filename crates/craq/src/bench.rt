@@ -1,21 +1,39 @@
-//! `craq bench`: a load of small puts and strong reads over several connections, and its results as
-//! a table; called by `main`.
+//! `craq bench`: a load of puts and strong reads over several connections, and its results as a
+//! table and a histogram; called by `main`.
+ghost use Rattle.std.specs.Prelude.{◌<◌};
+
 use crate::calling::{Asker, connection, exchange_over};
 use crate::fault::Fault;
 use crate::tally::Tally;
 use craq_cli::Load;
-use craq_commands::{Command, ReadMode, Update};
+use craq_commands::{Command, ReadMode, Reply, Update};
 use craq_frames::{ClientMessage, ClientReply};
 use craq_names::{ChainId, ClientId, Key, ObjectId, RequestNo, Value};
-use std::alloc::Global;
+use std::alloc::{AllocError, Global};
 use std::net::{Net, TcpListener, TcpStream};
 use std::sync::{Mutex, Wait};
 use std::thread;
 use std::thread::Threads;
 use std::time::{Clock, Duration};
 
-/// The value of each put, of 16 bytes.
-const PUT_VALUE: &str = "0123456789abcdef";
+/// The client of the first connection; that of each later one is the next. Each run uses the same
+/// clients, so that the store keeps replies to these alone: the bytes "craq" and zeros.
+const FIRST_CLIENT: u64 = 0x6372_6171_0000_0000;
+
+/// The digits of a put's value, again and again.
+const DIGITS: &[u8; 16] = b"0123456789abcdef";
+
+/// An odd number by which the numbers of requests are spread over the objects: 2^64 divided by the
+/// golden ratio.
+const SPREAD: u64 = 0x9e37_79b9_7f4a_7c15;
+
+/// The bounds of the histogram, in microseconds.
+const BOUNDS: [u64; 13] = [
+    10, 20, 50, 100, 200, 500, 1_000, 2_000, 5_000, 10_000, 20_000, 50_000, 100_000,
+];
+
+/// The longest bar of the histogram.
+const BAR: &str = "##################################################";
 
 /// The headings of the table, over the columns of `print_tally`.
 const HEADINGS: &str =
@@ -35,8 +53,12 @@ struct Outcome {
 struct Caller<'a> {
     asker: Asker<'a>,
     load: Load,
-    /// The client whose puts it asks; no other connection has it.
-    client: u64,
+    /// The value of each put.
+    value: &'a [u8],
+    /// The index of the connection, from 0.
+    index: u64,
+    /// The number of its first put is the next one.
+    before: u64,
     /// The time at which the load is over, by the clock of the system.
     until: Duration,
 }
@@ -55,10 +77,21 @@ fn is_read(number: u64, reads: u64) -> bool {
     place.saturating_mul(reads) % 100 < reads
 }
 
-/// Makes the object that a client of the load reads and writes, on chain 0. Fails only when out of
-/// memory.
-fn bench_object(alloc: Global, client: u64) -> Result<ObjectId, Fault> {
-    let key = format!(in alloc; "bench-{client}")?;
+/// Returns the object of request `number` of a connection, of `keys` ones. The requests of all
+/// connections are spread over the objects.
+fn key_of(index: u64, number: u64, keys: u64) -> u64
+    requires { 0 < keys }
+    ensures { result < keys }
+{
+    let place = number.wrapping_add(index.wrapping_mul(SPREAD));
+    (place.wrapping_mul(SPREAD) >> 32) % keys
+}
+
+/// Makes the object that request `number` of a connection reads or writes, on chain 0. Fails only
+/// when out of memory.
+fn bench_object(alloc: Global, caller: &Caller<'_>, number: u64) -> Result<ObjectId, Fault> {
+    let key = key_of(caller.index, number, caller.load.keys.max(1));
+    let key = format!(in alloc; "bench-{key}")?;
     match Key::new(alloc, key.as_str().as_bytes()) {
         Ok(key) => Ok(ObjectId {
             chain: ChainId::new(0),
@@ -68,30 +101,31 @@ fn bench_object(alloc: Global, client: u64) -> Result<ObjectId, Fault> {
     }
 }
 
-/// Makes the message that reads the connection's object. Fails only when out of memory.
-fn read_message(alloc: Global, caller: &Caller<'_>) -> Result<ClientMessage, Fault> {
-    Ok(ClientMessage::Read {
+/// Makes the message of a read. Fails only when out of memory.
+fn read_message(caller: &Caller<'_>, object: ObjectId) -> ClientMessage {
+    ClientMessage::Read {
         node: caller.asker.node,
         pass: caller.asker.pass,
         mode: ReadMode::Strong,
-        object: bench_object(alloc, caller.client)?,
-    })
+        object,
+    }
 }
 
-/// Makes the message of the connection's put of this number, from 1. Fails only when out of memory.
-fn put_message(alloc: Global, caller: &Caller<'_>, number: u64) -> Result<ClientMessage, Fault> {
-    let object = bench_object(alloc, caller.client)?;
-    let (Ok(value), Ok(number)) = (
-        Value::new(alloc, PUT_VALUE.as_bytes()),
-        RequestNo::new(number),
-    ) else {
+/// Makes the message of a put of this number. Fails only when out of memory.
+fn put_message(
+    alloc: Global,
+    caller: &Caller<'_>,
+    object: ObjectId,
+    number: u64,
+) -> Result<ClientMessage, Fault> {
+    let (Ok(value), Ok(number)) = (Value::new(alloc, caller.value), RequestNo::new(number)) else {
         return Err(Fault::Memory);
     };
     Ok(ClientMessage::Update {
         node: caller.asker.node,
         pass: caller.asker.pass,
         update: Update {
-            client: ClientId::new(caller.client),
+            client: ClientId::new(FIRST_CLIENT.wrapping_add(caller.index)),
             number,
             command: Command::Put { object, value },
         },
@@ -117,19 +151,31 @@ fn count(tally: &mut Tally, is_refused: bool, microseconds: u64) {
     }
 }
 
-/// Makes the message of the connection's put of this number, or that of a read if there is none.
+/// Makes the message of request `number` of a connection: a put of this number, or a read if there
+/// is none. Fails only when out of memory.
 fn message_of(
     alloc: Global,
     caller: &Caller<'_>,
+    number: u64,
     put: Option<u64>,
 ) -> Result<ClientMessage, Fault> {
+    let object = bench_object(alloc, caller, number)?;
     match put {
-        Some(number) => put_message(alloc, caller, number),
-        None => read_message(alloc, caller),
+        Some(put) => put_message(alloc, caller, object, put),
+        None => Ok(read_message(caller, object)),
     }
 }
 
-/// Sends a message over a connection. Returns whether the reply is a refusal, and the connection.
+/// Returns whether a request was not done: it is refused, or a put did not write.
+const fn is_refusal(reply: &ClientReply) -> bool {
+    match reply {
+        ClientReply::Refused(_) => true,
+        ClientReply::Update { reply, .. } => !matches!(reply, Reply::Written(_)),
+        _ => false,
+    }
+}
+
+/// Sends a message over a connection. Returns whether the request was not done, and the connection.
 fn ask_over(
     alloc: Global,
     stream: TcpStream,
@@ -138,7 +184,7 @@ fn ask_over(
     let asked = exchange_over(alloc, stream, &message);
     drop(message);
     let (reply, stream) = asked?;
-    let is_refused = matches!(&reply, ClientReply::Refused(_));
+    let is_refused = is_refusal(&reply);
     drop(reply);
     Ok((is_refused, stream))
 }
@@ -155,7 +201,7 @@ where
 {
     let mut stream = connection(rt, caller.asker.address)?;
     let mut began = now(rt)?;
-    let mut put = 0u64;
+    let mut put = caller.before;
     for number in 0..u64::MAX {
         if began >= caller.until {
             break;
@@ -164,7 +210,8 @@ where
         if !is_read {
             put = put.saturating_add(1);
         }
-        let message = message_of(rt.alloc(), caller, if is_read { None } else { Some(put) })?;
+        let put = if is_read { None } else { Some(put) };
+        let message = message_of(rt.alloc(), caller, number, put)?;
         let (is_refused, back) = ask_over(rt.alloc(), stream, message)?;
         stream = back;
         let ended = now(rt)?;
@@ -218,13 +265,78 @@ fn print_tally<R: Print>(rt: &R, name: &str, tally: &Tally, seconds: u64) -> Res
     }
 }
 
+/// Returns the bar of a count among all.
+fn bar_of(count: u64, all: u64) -> &'static str {
+    let longest = BAR.len() as u64;
+    let length = count.saturating_mul(longest) / all.max(1);
+    BAR.get(..length.min(longest) as usize).unwrap_or(BAR)
+}
+
+/// Prints a line of the histogram, if any answer belongs there.
+fn print_bin<R: Print>(rt: &R, name: &str, reads: u64, puts: u64, all: u64) -> Result<(), Fault> {
+    let both = reads.saturating_add(puts);
+    if both == 0 {
+        return Ok(());
+    }
+    let bar = bar_of(both, all);
+    match println!(rt; "{name:<12} {reads:>10} {puts:>10} {bar}") {
+        Ok(()) => Ok(()),
+        Err(error) => Err(Fault::CannotPrint(error)),
+    }
+}
+
+/// Prints how many answers took how long: a line for each bound, with the answers that took less
+/// than that and no less than the bound before, and one for those that took longer.
+fn print_histogram<R: AllocGlobal + Print>(
+    rt: &R,
+    reads: &Tally,
+    puts: &Tally,
+) -> Result<(), Fault> {
+    if let Err(error) = println!(rt; "\nbelow us           reads       puts") {
+        return Err(Fault::CannotPrint(error));
+    }
+    let all = reads.answered.saturating_add(puts.answered);
+    let (mut fewer_reads, mut fewer_puts) = (0u64, 0u64);
+    for bound in BOUNDS {
+        let (some_reads, some_puts) = (reads.below(bound), puts.below(bound));
+        let (more_reads, more_puts) = (
+            some_reads.saturating_sub(fewer_reads),
+            some_puts.saturating_sub(fewer_puts),
+        );
+        let name = format!(in rt.alloc(); "{bound}")?;
+        print_bin(rt, name.as_str(), more_reads, more_puts, all)?;
+        (fewer_reads, fewer_puts) = (some_reads, some_puts);
+    }
+    let (last_reads, last_puts) = (
+        reads.answered.saturating_sub(fewer_reads),
+        puts.answered.saturating_sub(fewer_puts),
+    );
+    print_bin(rt, "longer", last_reads, last_puts, all)
+}
+
 /// Prints the results of a load.
-fn print_outcome<R: Print>(rt: &R, reads: &Tally, puts: &Tally, seconds: u64) -> Result<(), Fault> {
+fn print_outcome<R: AllocGlobal + Print>(
+    rt: &R,
+    reads: &Tally,
+    puts: &Tally,
+    seconds: u64,
+) -> Result<(), Fault> {
     if let Err(error) = println!(rt; "{HEADINGS}") {
         return Err(Fault::CannotPrint(error));
     }
     print_tally(rt, "strong read", reads, seconds)?;
-    print_tally(rt, "put", puts, seconds)
+    print_tally(rt, "put", puts, seconds)?;
+    print_histogram(rt, reads, puts)
+}
+
+/// Makes the value of each put. Fails only when out of memory.
+fn value_of(alloc: Global, size: u64) -> Result<Vec<u8>, AllocError> {
+    let mut value = Vec::new(alloc);
+    for place in 0..size {
+        let digit = DIGITS[(place % 16) as usize];
+        value.push(digit)?;
+    }
+    Ok(value)
 }
 
 /// Runs all connections of a load at once, and waits for them.
@@ -232,7 +344,7 @@ fn run_load<'a, R>(
     rt: R,
     asker: &Asker<'a>,
     load: &Load,
-    first_client: u64,
+    value: &'a [u8],
     has_progress: bool,
     outcome: &Mutex<Outcome>,
 ) -> Result<(), Fault>
@@ -241,12 +353,15 @@ where
     R: Net<Listener = TcpListener, Stream = TcpStream> + Copy + Drop + Send + Sync + 'static,
 {
     let until = now(&rt)?.saturating_add(Duration::from_secs(load.seconds));
+    let before = nanoseconds(&rt)?;
     thread::scope(thread::scope_env(), &rt, |scope| {
         for index in 0..load.connections {
             let caller = Caller {
                 asker: asker.same(),
                 load: *load,
-                client: first_client.wrapping_add(index),
+                value,
+                index,
+                before,
                 until,
             };
             if scope
@@ -263,8 +378,9 @@ where
     })
 }
 
-/// Returns a number that no earlier load began with: the nanoseconds since 1970.
-fn fresh_client<R: Clock>(rt: &R) -> Result<u64, Fault> {
+/// Returns the nanoseconds since 1970: the numbers of a run's puts are above these, and so above
+/// those of earlier runs, since a put takes longer than a nanosecond.
+fn nanoseconds<R: Clock>(rt: &R) -> Result<u64, Fault> {
     match rt.since_1970() {
         Ok(time) => Ok(
             time.as_secs()
@@ -276,8 +392,9 @@ fn fresh_client<R: Clock>(rt: &R) -> Result<u64, Fault> {
 }
 
 /// Puts a load on a node for a number of seconds, over a number of connections with one request
-/// each under way. Prints the counts of answers and refusals, and the times within which half, 95
-/// and 99 of 100 and all of the answers came. Each connection puts as a client of its own.
+/// each under way. Prints the counts of answers and refusals, the times within which half, 95 and
+/// 99 of 100 and all of the answers came, and a histogram of these times. Each connection puts as a
+/// client of its own, the same one in each run.
 pub fn bench<R>(rt: R, asker: &Asker<'_>, load: &Load, has_progress: bool) -> Result<u8, Fault>
 where
     R: AllocGlobal + Print + Eprint + Clock + Threads + Wait,
@@ -288,8 +405,8 @@ where
         puts: Tally::new(rt.alloc())?,
         fault: None,
     });
-    let first_client = fresh_client(&rt)?;
-    run_load(rt, asker, load, first_client, has_progress, &outcome)?;
+    let value = value_of(rt.alloc(), load.size)?;
+    run_load(rt, asker, load, value.as_slice(), has_progress, &outcome)?;
     let Outcome { reads, puts, fault } = outcome.into_inner();
     print_outcome(&rt, &reads, &puts, load.seconds)?;
     match fault {

@@ -12,6 +12,7 @@ mod identity;
 mod link;
 mod output;
 mod people;
+mod positions;
 mod quoting;
 mod session;
 mod shell;
@@ -41,6 +42,7 @@ use std::rt::Files;
 use std::sync::Wait;
 use std::thread::Threads;
 use std::time::Clock;
+use watch::Watched;
 
 /// Asks once, and prints the answer with its pass on a line of its own, or the refusal. Returns the
 /// status.
@@ -135,6 +137,15 @@ where
     }
 }
 
+/// Returns what a watch watches: the positions of nodes where the line names the metrics, else the
+/// status.
+fn watched_by<'a>(line: &CallLine<'a>, address: &'a str) -> Watched<'a> {
+    match line.metrics {
+        Some(metrics) => Watched::Positions(metrics),
+        None => Watched::Status(address),
+    }
+}
+
 /// Does what a command line asks for at an address. Returns the status.
 fn run_at<R>(rt: R, terminals: Terminals, address: &str, line: &CallLine<'_>) -> Result<u8, Fault>
 where
@@ -143,7 +154,7 @@ where
 {
     match &line.task {
         Task::Verb(verb) => run_person(&rt, terminals, address, line, verb),
-        Task::Watch(seconds) => watch::watch(&rt, address, *seconds),
+        Task::Watch(seconds) => watch::watch(&rt, watched_by(line, address), *seconds),
         _ => run_asker(rt, terminals, address, line),
     }
 }

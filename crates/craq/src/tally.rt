@@ -81,6 +81,16 @@ impl Tally {
         self.longest = self.longest.max(other.longest);
     }
 
+    /// Returns how many answers took less than this many microseconds, a multiple of 10 up to
+    /// 100,000.
+    pub fn below(&self, microseconds: u64) -> u64 {
+        let mut sum = 0u64;
+        for count in self.counts.iter().take(bucket_of(microseconds)) {
+            sum = sum.saturating_add(*count);
+        }
+        sum
+    }
+
     /// Returns the microseconds, to 10 of them, within which `percent` of 100 answers came. Above
     /// 100 milliseconds it is the longest time; without answers it is 0.
     pub fn within(&self, percent: u64) -> u64

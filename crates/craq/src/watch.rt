@@ -1,7 +1,9 @@
-//! `craq watch`: the status of the server, printed again whenever it changes; called by `main`.
+//! `craq watch`: the status of the server, or the positions of its nodes, printed again whenever it
+//! changes; called by `main`.
 use crate::calling::reply_to;
 use crate::fault::Fault;
-use craq_frames::{ClientMessage, ClientReply, Text};
+use crate::positions::read_positions;
+use craq_frames::{ClientMessage, ClientReply};
 use std::net::{Net, TcpListener, TcpStream};
 use std::sync::Wait;
 use std::thread;
@@ -10,31 +12,54 @@ use std::time::{Clock, Duration, Instant};
 /// The milliseconds between two requests.
 const PAUSE_MILLISECONDS: u64 = 200;
 
-/// Asks the server for its status.
-fn status<R>(rt: &R, address: &str) -> Result<Text, Fault>
+/// The thing that is watched.
+#[derive(Clone, Copy, Debug)]
+pub enum Watched<'a> {
+    /// The status, asked of the server at this address.
+    Status(&'a str),
+    /// The positions of nodes, asked of the metrics at this address.
+    Positions(&'a str),
+}
+
+/// Asks the server for its status. Returns it as a line.
+fn status<R>(rt: &R, address: &str) -> Result<String, Fault>
 where
     R: AllocGlobal + Net<Listener = TcpListener, Stream = TcpStream>,
 {
     match reply_to(rt, address, &ClientMessage::Status)? {
-        ClientReply::Status(status) => Ok(status),
+        ClientReply::Status(status) => {
+            let status = status.as_str();
+            Ok(format!(in rt.alloc(); "{status}\n")?)
+        }
         _ => Err(Fault::Connection),
     }
 }
 
-/// Prints a line.
-fn print_line<R: Print>(rt: &R, line: &str) -> Result<(), Fault> {
-    match println!(rt; "{line}") {
+/// Returns the lines of what is watched.
+fn seen<R>(rt: &R, watched: Watched<'_>) -> Result<String, Fault>
+where
+    R: AllocGlobal + Net<Listener = TcpListener, Stream = TcpStream>,
+{
+    match watched {
+        Watched::Status(address) => status(rt, address),
+        Watched::Positions(address) => read_positions(rt, address),
+    }
+}
+
+/// Prints lines.
+fn print_lines<R: Print>(rt: &R, lines: &str) -> Result<(), Fault> {
+    match print!(rt; "{lines}") {
         Ok(()) => Ok(()),
         Err(error) => Err(Fault::CannotPrint(error)),
     }
 }
 
-/// Prints a status if it differs from the last one.
+/// Prints lines if they differ from the last ones.
 fn print_change<R: Print>(rt: &R, last: &str, next: &str) -> Result<(), Fault> {
     if next == last {
         Ok(())
     } else {
-        print_line(rt, next)
+        print_lines(rt, next)
     }
 }
 
@@ -49,23 +74,23 @@ fn is_over<R: Clock>(rt: &R, began: &Instant, seconds: Option<u64>) -> Result<bo
     }
 }
 
-/// Prints the status of the server, and prints it again whenever it changes, for this many seconds;
-/// without end if there is no number.
-pub fn watch<R>(rt: &R, address: &str, seconds: Option<u64>) -> Result<u8, Fault>
+/// Prints what is watched, and prints it again whenever it changes, for this many seconds; without
+/// end if there is no number.
+pub fn watch<R>(rt: &R, watched: Watched<'_>, seconds: Option<u64>) -> Result<u8, Fault>
 where
     R: AllocGlobal + Print + Clock + Wait + Net<Listener = TcpListener, Stream = TcpStream>,
 {
     let Ok(began) = Instant::now(rt) else {
         return Err(Fault::System);
     };
-    let mut last = status(rt, address)?;
-    print_line(rt, last.as_str())?;
+    let mut last = seen(rt, watched)?;
+    print_lines(rt, last.as_str())?;
     for _ in rt.forever() {
         if is_over(rt, &began, seconds)? {
             break;
         }
         thread::sleep(rt, Duration::from_millis(PAUSE_MILLISECONDS));
-        let next = status(rt, address)?;
+        let next = seen(rt, watched)?;
         print_change(rt, last.as_str(), next.as_str())?;
         last = next;
     }

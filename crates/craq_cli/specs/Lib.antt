@@ -2,6 +2,7 @@ pub mod Commands
 pub mod Control
 pub mod ControlNode
 pub mod Lines
+pub mod Loads
 pub mod Numbers
 pub mod Options
 pub mod VerbItems

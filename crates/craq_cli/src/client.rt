@@ -2,7 +2,9 @@
 //! main of `craq`.
 use crate::commands::{is_command, task_of};
 use crate::numbers::number_between;
-use crate::verb_options::{BadOption, CheckedOption, FLAGS, VALUED, mode_in, number_in};
+use crate::verb_options::{
+    BadOption, CheckedOption, FLAGS, LOAD, VALUED, load_in, mode_in, number_in,
+};
 use crate::{Task, UsageError, VERSION, ValueForm, VerbLine, VerbOptions, is_verb};
 use clap::error::ErrorKind;
 use clap::{Arg, ArgAction, ArgMatches, Command, Error};
@@ -19,6 +21,8 @@ pub struct CallLine<'a> {
     pub node: Option<NodeId>,
     /// The pass that is shown: the largest stamp that the client has seen.
     pub pass: Pass,
+    /// The address of the server's metrics, for a watch; `None` if `--metrics` was not given.
+    pub metrics: Option<&'a str>,
     /// The task.
     pub task: Task<'a>,
 }
@@ -89,9 +93,10 @@ than it.
 
 TOOL and its words:
   shell                      a prompt that takes verbs and commands, and `help`
-  watch [SECONDS]            the chains, printed again whenever they change
-  bench CONNECTIONS SECONDS READS   a load of small puts and strong reads, READS of 100 requests
-                             being reads, and what came of it
+  watch [SECONDS]            the chains, printed again whenever they change; with --metrics ADDRESS
+                             also each node's entries, committed ones first
+  bench [CONNECTIONS SECONDS READS]   a load of puts and strong reads, READS of 100 requests being
+                             reads; prints counts and latencies; see --connections to --size
 
 Printed:
   written V          the update wrote version V
@@ -122,6 +127,7 @@ was never written.
 Examples:
   craq set colour blue
   craq get colour --node 3 --json
+  craq bench --connections 20 --mix 90 --size 1000
   craq --connect 127.0.0.1:7000 --node 1 put 1 1 colour blue
   craq --connect 127.0.0.1:7000 --node 1 tas 1 2 colour 1 green
   craq --connect 127.0.0.1:7000 --node 1 append 1 3 colour ish
@@ -188,6 +194,23 @@ fn open_options<'a>(alloc: Global) -> Result<Command<'a>, AllocError> {
     Ok(command)
 }
 
+/// The help of `--metrics`.
+const METRICS: &str = "Of watch: where the server serves its metrics (craqd --metrics ADDRESS)";
+
+/// Makes the command with the options of tools too.
+fn tool_options<'a>(alloc: Global) -> Result<Command<'a>, AllocError> {
+    let mut command = open_options(alloc)?;
+    for (name, value, help) in LOAD {
+        command = command.arg(option_arg(alloc, name, value, help))?;
+    }
+    command.arg(option_arg(alloc, "metrics", "ADDRESS", METRICS))
+}
+
+/// Makes the command of a tool, whose options stand anywhere.
+fn tool_command<'a>(alloc: Global) -> Result<Command<'a>, AllocError> {
+    tool_options(alloc)?.arg(words_arg(alloc))
+}
+
 /// Makes the command whose options stand anywhere: `craq [OPTION ..] [COMMAND ..] [OPTION ..]`.
 fn open_command<'a>(alloc: Global) -> Result<Command<'a>, AllocError> {
     open_options(alloc)?.arg(words_arg(alloc))
@@ -198,7 +221,7 @@ fn first_command<'a>(alloc: Global) -> Result<Command<'a>, AllocError> {
     let words = words_arg(alloc)
         .trailing_var_arg(true)
         .allow_hyphen_values(true);
-    open_options(alloc)?.arg(words)
+    tool_options(alloc)?.arg(words)
 }
 
 /// Makes the command with `--connect ADDRESS --node N [--pass P]`, help and version.
@@ -349,8 +372,42 @@ fn read_command<'a>(alloc: Global, words: &'a [&'a str]) -> Result<CallLine<'a>,
         address: Some(address),
         node: Some(node),
         pass,
+        metrics: None,
         task: task_in(alloc, &mut command, node, matches.get_strs("COMMAND"))?,
     })
+}
+
+/// Returns the text about an option that this task does not take, if there is one.
+fn misplaced(matches: &ArgMatches<'_>, task: &Task<'_>) -> Option<&'static str> {
+    let has_load = LOAD.iter().any(|option| matches.contains_id(option.0));
+    match task {
+        Task::Bench(_) if matches.contains_id("metrics") => Some("--metrics is an option of watch"),
+        Task::Bench(_) => None,
+        _ if has_load => {
+            Some("--connections, --seconds, --mix, --keys and --size are options of bench")
+        }
+        Task::Watch(_) => None,
+        _ if matches.contains_id("metrics") => Some("--metrics is an option of watch"),
+        _ => None,
+    }
+}
+
+/// Returns the task of a tool with its options.
+fn task_with_options<'a>(
+    command: &mut Command<'_>,
+    matches: &ArgMatches<'_>,
+    task: Task<'a>,
+) -> Result<Task<'a>, CommandFault> {
+    if let Some(reported) = misplaced(matches, &task) {
+        return Err(wrong_words(command, reported)?);
+    }
+    match task {
+        Task::Bench(load) => match load_in(matches, load) {
+            Ok(load) => Ok(Task::Bench(load)),
+            Err(bad) => Err(option_fault(command, bad)),
+        },
+        task => Ok(task),
+    }
 }
 
 /// Returns the line of a tool.
@@ -361,17 +418,19 @@ fn tool_line<'a>(
     place: (Option<NodeId>, Pass),
 ) -> Result<CallLine<'a>, CommandFault> {
     let (node, pass) = place;
+    let task = task_in(alloc, command, NodeId::new(0), matches.get_strs("COMMAND"))?;
     Ok(CallLine {
         address: matches.get_str("connect"),
         node,
         pass,
-        task: task_in(alloc, command, NodeId::new(0), matches.get_strs("COMMAND"))?,
+        metrics: matches.get_str("metrics"),
+        task: task_with_options(command, matches, task)?,
     })
 }
 
 /// Parses a command line with the words of a tool.
 fn read_tool<'a>(alloc: Global, words: &'a [&'a str]) -> Result<CallLine<'a>, CommandFault> {
-    let mut command = open_command(alloc)?;
+    let mut command = tool_command(alloc)?;
     let matches = command.try_get_matches_from_mut(words)?;
     match place_of(&matches) {
         Ok(place) => tool_line(alloc, &mut command, &matches, place),
@@ -390,6 +449,7 @@ fn verb_line<'a>(alloc: Global, matches: &ArgMatches<'a>) -> Result<CallLine<'a>
         address: matches.get_str("connect"),
         node,
         pass,
+        metrics: None,
         task: Task::Verb(VerbLine { words, options }),
     })
 }

@@ -1,7 +1,7 @@
 //! Reads the words of a command: its task, or the first wrong word; for `client` and for a prompt.
 ghost use Rattle.std.specs.Prelude.{◌≡◌, is_some, map, drop};
 ghost use Rattle.craq_script.specs.Words.{item_of};
-ghost use Rattle.craq_cli.specs.Commands.{Reads, expect, word_at, object_and_value, object_and_number, test_and_set_of, items_from, change_of, command_update, read_of, name_of, request_of, load_of, watch_of, task_of};
+ghost use Rattle.craq_cli.specs.Commands.{Reads, expect, word_at, object_and_value, object_and_number, test_and_set_of, items_from, change_of, command_update, read_of, name_of, request_of, worded_load, load_of, watch_of, task_of};
 
 use crate::words::{at_end, bad, bytes_at, mode_at, number_at, object_at, value_at};
 use crate::{Expected, Load, Request, Task, UsageError};
@@ -236,10 +236,11 @@ pub fn request_of(alloc: Global, node: NodeId, words: &[&str]) -> Result<Request
 }
 
 /// Reads CONNECTIONS SECONDS READS.
-#[tactic(auto, unfolding(crate::specs::Commands::load_of))]
-fn load_of(words: &[&str]) -> Result<Load, UsageError>
-    ensures { Reads (λ x. x) result (load_of (map (λ w. w.now) words.now)) }
+#[tactic(auto, unfolding(crate::specs::Commands::worded_load))]
+fn worded_load(words: &[&str]) -> Result<Load, UsageError>
+    ensures { Reads (λ x. x) result (worded_load (map (λ w. w.now) words.now)) }
 {
+    let usual = Load::usual();
     let connections = number_at(words, 1, Expected::Connections, 1, 1000)?;
     let seconds = number_at(words, 2, Expected::Seconds, 1, 86400)?;
     let reads = number_at(words, 3, Expected::Reads, 0, 100)?;
@@ -247,8 +248,21 @@ fn load_of(words: &[&str]) -> Result<Load, UsageError>
         connections,
         seconds,
         reads,
+        keys: usual.keys,
+        size: usual.size,
     };
     at_end(load, words, 4)
+}
+
+/// Reads nothing, or CONNECTIONS SECONDS READS.
+#[tactic(auto, unfolding(crate::specs::Commands::load_of))]
+fn load_of(words: &[&str]) -> Result<Load, UsageError>
+    ensures { Reads (λ x. x) result (load_of (map (λ w. w.now) words.now)) }
+{
+    if words.len() <= 1 {
+        return Ok(Load::usual());
+    }
+    worded_load(words)
 }
 
 /// Reads SECONDS, or nothing.

@@ -35,6 +35,8 @@ pub struct Line<'a> {
     pub journal: bool,
     /// True where connections and refusals are logged on standard error.
     pub log: bool,
+    /// The address at which metrics are served: a host and a port; `None` where they are not.
+    pub metrics: Option<&'a str>,
 }
 
 const ABOUT: &str = "Runs a replicated object store, and serves it to clients over TCP";
@@ -54,6 +56,9 @@ const UNTIL_INPUT_ENDS: &str = "End in order once standard input ends";
 
 const CONTROL: &str =
     "Take lines of standard input that stop, remove and join nodes; implies --until-input-ends";
+
+const METRICS: &str =
+    "Serve /metrics for Prometheus, /healthz and /status.json over HTTP at ADDRESS, as 127.0.0.1:7001";
 
 const HELP: &str = "PLAN is a TOML file that names each chain and its nodes, the head first:
 
@@ -139,11 +144,21 @@ fn command_with_options<'a>(alloc: Global) -> Result<Command<'a>, AllocError> {
     command.arg(number_arg(alloc, NumberOption::Idle))
 }
 
-/// Adds `[--most-leap N] [--log]`. Fails only when out of memory.
+/// Makes an option with a text.
+fn text_arg<'a>(alloc: Global, name: &'a str, value: &'a str, help: &'a str) -> Arg<'a> {
+    Arg::new(alloc, name)
+        .long(name)
+        .value_name(value)
+        .action(ArgAction::Set)
+        .help(help)
+}
+
+/// Adds `[--most-leap N] [--log] [--metrics ADDRESS]`. Fails only when out of memory.
 fn command_with_log<'a>(alloc: Global) -> Result<Command<'a>, AllocError> {
     let command = command_with_options(alloc)?;
     let command = command.arg(number_arg(alloc, NumberOption::MostLeap))?;
-    command.arg(flag_arg(alloc, "log", LOG))
+    let command = command.arg(flag_arg(alloc, "log", LOG))?;
+    command.arg(text_arg(alloc, "metrics", "ADDRESS", METRICS))
 }
 
 /// Makes the command `craqd [OPTION ..] PLAN ADDRESS`. Fails only when out of memory.
@@ -189,6 +204,7 @@ fn line_of<'a>(matches: &ArgMatches<'a>) -> Result<Line<'a>, &'static str>
         control,
         journal: matches.get_flag("journal"),
         log: matches.get_flag("log"),
+        metrics: matches.get_str("metrics"),
     })
 }
 

@@ -27,6 +27,29 @@ pub struct Load {
     pub seconds: u64,
     /// The number of strong reads in 100 requests, 0 to 100; the others are puts.
     pub reads: u64,
+    /// The number of objects, 1 to 1,000,000; each request picks one.
+    pub keys: u64,
+    /// The number of bytes of each put's value, 0 to 4,096.
+    pub size: u64,
+}
+
+impl Load {
+    ghost use Rattle.std.specs.Prelude.{◌≡◌};
+    ghost use Rattle.craq_cli.specs.Loads.{usual_load};
+
+    /// Returns the load of `craq bench` without words and options: 50 connections, 10 seconds, half
+    /// of the requests reads, 1,000 objects, 16 bytes.
+    pub const fn usual() -> Self
+        ensures { result ≡ usual_load }
+    {
+        Load {
+            connections: 50,
+            seconds: 10,
+            reads: 50,
+            keys: 1_000,
+            size: 16,
+        }
+    }
 }
 
 /// The form of values on a command line.

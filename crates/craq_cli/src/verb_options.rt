@@ -2,8 +2,9 @@
 //! line; for `client`.
 ghost use Rattle.std.specs.Prelude.{◌≡◌, ◌≤◌, IfOk, IfSome};
 ghost use Rattle.clap.specs.Words.{found_of};
-ghost use Rattle.craq_cli.specs.VerbOptions.{name_of, least_of, greatest_of, number_in, mode_in, Has};
+ghost use Rattle.craq_cli.specs.VerbOptions.{name_of, least_of, greatest_of, number_in, load_in, mode_in, Has};
 
+use crate::Load;
 use crate::numbers::number_between;
 use clap::ArgMatches;
 use craq_commands::ReadMode;
@@ -17,6 +18,11 @@ pub(crate) enum CheckedOption {
     Client,
     Number,
     Mode,
+    Connections,
+    Seconds,
+    Mix,
+    Keys,
+    Size,
 }
 
 /// The reason that an option has no value.
@@ -75,6 +81,35 @@ pub(crate) const FLAGS: [(&str, &str); 4] = [
     ("print-pass", "Print the pass of the reply too"),
 ];
 
+/// The options of `bench`: name, name of the value, help.
+pub(crate) const LOAD: [(&str, &str, &str); 5] = [
+    (
+        "connections",
+        "N",
+        "Of bench: the number of connections, 1 to 1000, each with one request under way; 50",
+    ),
+    (
+        "seconds",
+        "N",
+        "Of bench: for how many seconds, 1 to 86400; 10",
+    ),
+    (
+        "mix",
+        "READS",
+        "Of bench: how many of 100 requests are strong reads, the others being puts; 50",
+    ),
+    (
+        "keys",
+        "N",
+        "Of bench: the number of objects, 1 to 1000000, of which each request picks one; 1000",
+    ),
+    (
+        "size",
+        "BYTES",
+        "Of bench: the size of each put's value, 0 to 4096; 16",
+    ),
+];
+
 impl CheckedOption {
     /// Returns its name.
     const fn name<'a>(self) -> &'a str
@@ -86,6 +121,11 @@ impl CheckedOption {
             CheckedOption::Client => "client",
             CheckedOption::Number => "number",
             CheckedOption::Mode => "mode",
+            CheckedOption::Connections => "connections",
+            CheckedOption::Seconds => "seconds",
+            CheckedOption::Mix => "mix",
+            CheckedOption::Keys => "keys",
+            CheckedOption::Size => "size",
         }
     }
 
@@ -95,6 +135,7 @@ impl CheckedOption {
     {
         match self {
             CheckedOption::Number => 1,
+            CheckedOption::Connections | CheckedOption::Seconds | CheckedOption::Keys => 1,
             _ => 0,
         }
     }
@@ -105,6 +146,11 @@ impl CheckedOption {
     {
         match self {
             CheckedOption::Node => 0xffff_ffff,
+            CheckedOption::Connections => 1_000,
+            CheckedOption::Seconds => 86_400,
+            CheckedOption::Mix => 100,
+            CheckedOption::Keys => 1_000_000,
+            CheckedOption::Size => 4_096,
             _ => 0xffff_ffff_ffff_ffff,
         }
     }
@@ -119,6 +165,11 @@ impl CheckedOption {
                 "--number takes a number of 64 bits in decimal digits, and not 0"
             }
             CheckedOption::Mode => "--mode takes strong, eventual, or bounded:K with K of 32 bits",
+            CheckedOption::Connections => "--connections takes a number from 1 to 1000",
+            CheckedOption::Seconds => "--seconds takes a number from 1 to 86400",
+            CheckedOption::Mix => "--mix takes a number from 0 to 100",
+            CheckedOption::Keys => "--keys takes a number from 1 to 1000000",
+            CheckedOption::Size => "--size takes a number from 0 to 4096",
         }
     }
 }
@@ -139,6 +190,25 @@ pub(crate) fn number_in(
         Err(ParseError::Memory) => Err(BadOption::Memory),
         Err(ParseError::OutsideGrammar) => Err(BadOption::Value(option)),
     }
+}
+
+/// Returns a load with the numbers of the options that were given.
+#[tactic(auto, unfolding(crate::specs::VerbOptions::load_in))]
+pub(crate) fn load_in(matches: &ArgMatches<'_>, load: Load) -> Result<Load, BadOption>
+    ensures { Has result (load_in load (found_of matches.now)) }
+{
+    let connections = number_in(matches, CheckedOption::Connections)?;
+    let seconds = number_in(matches, CheckedOption::Seconds)?;
+    let reads = number_in(matches, CheckedOption::Mix)?;
+    let keys = number_in(matches, CheckedOption::Keys)?;
+    let size = number_in(matches, CheckedOption::Size)?;
+    Ok(Load {
+        connections: connections.unwrap_or(load.connections),
+        seconds: seconds.unwrap_or(load.seconds),
+        reads: reads.unwrap_or(load.reads),
+        keys: keys.unwrap_or(load.keys),
+        size: size.unwrap_or(load.size),
+    })
 }
 
 /// Parses the mode of reads; strong if the option was not given.

@@ -1,6 +1,6 @@
 -- Defines the drawing of a run: where each move happens, and where each message was sent and
 -- received.
-use Rattle.std.specs.Prelude.{ℕ, zero, suc, ◌+◌, ◌==◌, Bool, false, if◌then◌else◌, List, [], ◌∷◌, ◌++◌, map, slice_index, length}
+use Rattle.std.specs.Prelude.{ℕ, zero, suc, ◌+◌, ◌==◌, Bool, false, true, if◌then◌else◌, List, [], ◌∷◌, ◌++◌, map, slice_index, length}
 use Rattle.craq_model.specs.declared.step.Out.{Out}
 use Rattle.craq_model.specs.declared.step.Out.TheVariants as outs
 use Rattle.craq_runs.specs.declared.explanation.Explanation.{Explanation}
@@ -76,6 +76,20 @@ abbrev pub joined_in : List Taken → List ℕ
 joined_in [] = []
 joined_in (t ∷ ts) = joined_by t.chosen ++ joined_in ts
 
--- the master, the opening members, and each node that joined
+-- a move that happens at the master
+abbrev pub is_at_master : Move → Bool
+is_at_master (moves.Ask node ask) = false
+is_at_master (moves.Deliver number) = false
+is_at_master (moves.Tick node) = node == 0
+is_at_master (moves.Stop node) = false
+is_at_master (moves.Remove node) = true
+is_at_master (moves.Join node) = true
+
+-- the master, if one of these moves happens at it
+abbrev pub master_in : List Taken → List ℕ
+master_in [] = []
+master_in (t ∷ ts) = if is_at_master t.chosen then 0 ∷ [] else master_in ts
+
+-- the master if a move happens at it, the opening members, and each node that joined
 abbrev pub columns_of : Run → List ℕ
-columns_of run = (0 ∷ run.members) ++ joined_in run.moves
+columns_of run = (master_in run.moves ++ run.members) ++ joined_in run.moves

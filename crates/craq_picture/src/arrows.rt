@@ -1,9 +1,10 @@
-//! Draws the arrows: each message from its sender to each of its arrivals, or into the air; called
-//! by `painting`.
+//! Computes the lines of the arrows, from each message's sender to each of its arrivals or into the
+//! air, and places their labels; called by `painting`.
+use crate::board::{Board, Kind, Segment, Spot, Stroke};
 use crate::layout::{Layout, Point, first_out, sent_at};
-use crate::pen::{Side, draw_cross, draw_line, draw_text};
+use crate::pen::Side;
 use crate::{Arrival, Arrow, Sent};
-use craq_model::{LinkMessage, Why};
+use craq_model::LinkMessage;
 use craq_play::{print_message, word_of};
 use craq_runs::Taken;
 use std::alloc::{AllocError, Global};
@@ -11,8 +12,11 @@ use std::alloc::{AllocError, Global};
 /// The drop of a lost message's line, in picture units.
 const FALL: u64 = 6;
 
+/// The distance of a label from its column.
+const OFF: u64 = 9;
+
 /// Moves `x` by `by` toward `other`.
-fn beside(x: u64, other: u64, by: u64) -> u64 {
+fn toward(x: u64, other: u64, by: u64) -> u64 {
     if x < other {
         x.saturating_add(by)
     } else {
@@ -20,118 +24,33 @@ fn beside(x: u64, other: u64, by: u64) -> u64 {
     }
 }
 
-/// Returns the side of `x` that faces `other`.
-fn side_toward(x: u64, other: u64) -> Side {
-    if x < other { Side::Right } else { Side::Left }
-}
-
-/// Returns the side of `x` that faces away from `other`.
-fn side_away(x: u64, other: u64) -> Side {
-    if x < other { Side::Left } else { Side::Right }
-}
-
-/// Draws a message's number and text at its start.
-fn draw_message(
-    alloc: Global,
-    svg: &mut String,
-    number: u64,
-    message: &LinkMessage,
-    start: Point,
-    end: u64,
-) -> Result<(), AllocError> {
-    let mut words = String::new(alloc);
-    write!(words, "m{number} ")?;
-    print_message(&mut words, message)?;
-    let at = Point {
-        x: beside(start.x, end, 9),
-        y: start.y.saturating_sub(4),
-    };
-    draw_text(svg, "label", at, side_toward(start.x, end), words.as_str())
-}
-
-/// Draws a message's number where it was received, on the far side of the column. If it was
-/// ignored, adds the reason.
-fn draw_end(
-    alloc: Global,
-    svg: &mut String,
-    number: u64,
-    start: u64,
-    end: Point,
-    ignored: Option<Why>,
-) -> Result<(), AllocError> {
-    let mut words = String::new(alloc);
-    write!(words, "m{number}")?;
-    let at = Point {
-        x: if end.x < start {
-            end.x.saturating_sub(9)
-        } else {
-            end.x.saturating_add(9)
-        },
-        y: end.y.saturating_sub(2),
-    };
-    let side = side_away(end.x, start);
-    match ignored {
-        None => draw_text(svg, "who", at, side, words.as_str()),
-        Some(why) => {
-            let word = word_of(why);
-            write!(words, " {word}")?;
-            draw_text(svg, "why", at, side, words.as_str())
-        }
-    }
-}
-
-/// Draws a message from its start to where it was received.
-fn draw_arrival(
-    alloc: Global,
-    svg: &mut String,
-    layout: &Layout<'_>,
-    sent: &Sent,
-    start: Point,
-    arrival: &Arrival,
-) -> Result<(), AllocError> {
-    let end = Point {
-        x: layout.across(sent.to),
-        y: layout.down(arrival.row),
-    };
-    let tip = Point {
-        x: beside(end.x, start.x, 5),
-        y: end.y,
-    };
-    draw_end(alloc, svg, sent.number, start.x, end, arrival.ignored)?;
-    let class = if arrival.ignored.is_none() {
-        "message"
+/// Moves `x` by `by` away from `other`.
+fn away(x: u64, other: u64, by: u64) -> u64 {
+    if x < other {
+        x.saturating_sub(by)
     } else {
-        "ignored"
-    };
-    draw_line(svg, class, start, tip)
+        x.saturating_add(by)
+    }
 }
 
-/// Draws the start of a message that was never received.
-fn draw_lost(svg: &mut String, start: Point, end: u64) -> Result<(), AllocError> {
-    let far = start.x.max(end).saturating_sub(start.x.min(end));
-    let tip = Point {
-        x: beside(start.x, end, (far / 2).saturating_add(20).min(105)),
-        y: start.y.saturating_add(FALL),
-    };
-    draw_line(svg, "lost", start, tip)?;
-    draw_cross(svg, "cross", tip)
+/// Returns a place beside a column, on the side that faces `other`, at this height.
+fn near_spot(x: u64, other: u64, y: u64) -> Spot {
+    let side = if x < other { Side::Right } else { Side::Left };
+    let x = toward(x, other, OFF);
+    Spot {
+        at: Point { x, y },
+        side,
+    }
 }
 
-/// Draws the lines of a message.
-fn draw_lines(
-    alloc: Global,
-    svg: &mut String,
-    layout: &Layout<'_>,
-    arrow: &Arrow,
-    start: Point,
-) -> Result<(), AllocError> {
-    if arrow.arrivals.is_empty() {
-        return draw_lost(svg, start, layout.across(arrow.sent.to));
+/// Returns a place beside a column, on the side that faces away from `other`, at this height.
+fn far_spot(x: u64, other: u64, y: u64) -> Spot {
+    let side = if x < other { Side::Left } else { Side::Right };
+    let x = away(x, other, OFF);
+    Spot {
+        at: Point { x, y },
+        side,
     }
-    for arrival in arrow.arrivals.as_slice() {
-        draw_arrival(alloc, svg, layout, &arrow.sent, start, arrival)?;
-    }
-    Ok(())
 }
 
 /// Returns the move of a number, counted from 1.
@@ -143,55 +62,161 @@ fn move_at(moves: &[Taken], number: u64) -> Option<&Taken> {
 }
 
 /// Returns the point where a message starts.
-fn start_of(layout: &Layout<'_>, sent: &Sent, taken: &Taken) -> Point {
-    let first = first_out(&taken.chosen);
+fn start_of(layout: &Layout<'_>, moves: &[Taken], sent: &Sent) -> Point {
+    let first = match move_at(moves, sent.row) {
+        Some(taken) => first_out(&taken.chosen),
+        None => 0,
+    };
     Point {
         x: layout.across(sent.from),
         y: layout.out_down(sent.row, first, sent.place),
     }
 }
 
-/// Draws a message's text at its start.
-fn draw_label(
-    alloc: Global,
-    svg: &mut String,
-    layout: &Layout<'_>,
-    sent: &Sent,
-    taken: &Taken,
-    start: Point,
-) -> Result<(), AllocError> {
-    match sent_at(taken, sent.place) {
-        Some(message) => {
-            let end = layout.across(sent.to);
-            draw_message(alloc, svg, sent.number, message, start, end)
-        }
-        None => Ok(()),
+/// Returns the line of a message that was never delivered.
+fn lost_segment(start: Point, end: u64) -> Segment {
+    let far = start.x.max(end).saturating_sub(start.x.min(end));
+    let to = Point {
+        x: toward(start.x, end, (far / 2).saturating_add(20).min(105)),
+        y: start.y.saturating_add(FALL),
+    };
+    Segment {
+        stroke: Stroke::Lost,
+        from: start,
+        to,
     }
 }
 
-/// A layer of the messages' drawing: the lines lie below the labels.
-#[derive(Clone, Copy)]
-pub(crate) enum Layer {
-    Lines,
-    Labels,
+/// Returns the line of a message to one of its arrivals.
+fn segment_of(layout: &Layout<'_>, sent: &Sent, start: Point, arrival: &Arrival) -> Segment {
+    let to = Point {
+        x: toward(layout.across(sent.to), start.x, 5),
+        y: layout.down(arrival.row),
+    };
+    let stroke = if arrival.ignored.is_none() {
+        Stroke::Used
+    } else {
+        Stroke::Ignored
+    };
+    Segment {
+        stroke,
+        from: start,
+        to,
+    }
 }
 
-/// Draws one layer of all messages.
-pub(crate) fn draw_messages(
+/// Adds the lines of a message.
+fn add_segments(
+    segments: &mut Vec<Segment>,
+    layout: &Layout<'_>,
+    arrow: &Arrow,
+    start: Point,
+) -> Result<(), AllocError> {
+    if arrow.arrivals.is_empty() {
+        segments.push(lost_segment(start, layout.across(arrow.sent.to)))?;
+    }
+    for arrival in arrow.arrivals.as_slice() {
+        segments.push(segment_of(layout, &arrow.sent, start, arrival))?;
+    }
+    Ok(())
+}
+
+/// Returns the lines of all messages.
+pub(crate) fn segments_of(
     alloc: Global,
-    svg: &mut String,
     layout: &Layout<'_>,
     moves: &[Taken],
     arrows: &[Arrow],
-    layer: Layer,
+) -> Result<Vec<Segment>, AllocError> {
+    let mut segments = Vec::new(alloc);
+    for arrow in arrows {
+        let start = start_of(layout, moves, &arrow.sent);
+        add_segments(&mut segments, layout, arrow, start)?;
+    }
+    Ok(segments)
+}
+
+/// Places a message's number and text at its start.
+fn place_start(
+    alloc: Global,
+    board: &mut Board,
+    number: u64,
+    message: &LinkMessage,
+    start: Point,
+    end: u64,
+) -> Result<(), AllocError> {
+    let mut words = String::new(alloc);
+    write!(words, "m{number} ")?;
+    print_message(&mut words, message)?;
+    let spots = [
+        near_spot(start.x, end, start.y.saturating_sub(4)),
+        far_spot(start.x, end, start.y.saturating_sub(6)),
+        far_spot(start.x, end, start.y.saturating_add(4)),
+        near_spot(start.x, end, start.y.saturating_add(14)),
+    ];
+    board.place(Kind::Message, words, spots)
+}
+
+/// Places a message's number where it arrived, with the reason if it was ignored.
+fn place_end(
+    alloc: Global,
+    board: &mut Board,
+    layout: &Layout<'_>,
+    sent: &Sent,
+    arrival: &Arrival,
+) -> Result<(), AllocError> {
+    let number = sent.number;
+    let mut words = String::new(alloc);
+    write!(words, "m{number}")?;
+    let mut kind = Kind::Arrival;
+    if let Some(why) = arrival.ignored {
+        let word = word_of(why);
+        write!(words, " {word}")?;
+        kind = Kind::Reason;
+    }
+    let x = layout.across(sent.to);
+    let start = layout.across(sent.from);
+    let y = layout.down(arrival.row);
+    let spots = [
+        far_spot(x, start, y.saturating_add(4)),
+        near_spot(x, start, y.saturating_add(15)),
+        far_spot(x, start, y.saturating_sub(8)),
+        near_spot(x, start, y.saturating_sub(10)),
+    ];
+    board.place(kind, words, spots)
+}
+
+/// Places the label of each message at its start.
+pub(crate) fn place_starts(
+    alloc: Global,
+    board: &mut Board,
+    layout: &Layout<'_>,
+    moves: &[Taken],
+    arrows: &[Arrow],
 ) -> Result<(), AllocError> {
     for arrow in arrows {
-        if let Some(taken) = move_at(moves, arrow.sent.row) {
-            let start = start_of(layout, &arrow.sent, taken);
-            match layer {
-                Layer::Lines => draw_lines(alloc, svg, layout, arrow, start)?,
-                Layer::Labels => draw_label(alloc, svg, layout, &arrow.sent, taken, start)?,
-            }
+        let sent = &arrow.sent;
+        if let Some(taken) = move_at(moves, sent.row)
+            && let Some(message) = sent_at(taken, sent.place)
+        {
+            let start = start_of(layout, moves, sent);
+            let end = layout.across(sent.to);
+            place_start(alloc, board, sent.number, message, start, end)?;
+        }
+    }
+    Ok(())
+}
+
+/// Places the number of each message at each of its arrivals.
+pub(crate) fn place_ends(
+    alloc: Global,
+    board: &mut Board,
+    layout: &Layout<'_>,
+    arrows: &[Arrow],
+) -> Result<(), AllocError> {
+    for arrow in arrows {
+        for arrival in arrow.arrivals.as_slice() {
+            place_end(alloc, board, layout, &arrow.sent, arrival)?;
         }
     }
     Ok(())

@@ -84,5 +84,5 @@ pub(crate) fn draw_columns(
         x: layout.side(),
         y: NAMES,
     };
-    draw_text(svg, "name", side, Side::Middle, "committed")
+    draw_text(svg, "name", side, Side::Left, "committed")
 }

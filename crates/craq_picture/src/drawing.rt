@@ -4,7 +4,7 @@ ghost use Rattle.std.specs.Prelude.{◌≡◌, ◌++◌, List, length, map, IfOk
 ghost use Rattle.std.specs.List.{sum_by};
 ghost use Rattle.craq_runs.specs.Chain.{sent_in};
 ghost use Rattle.craq_runs.specs.declared.run.Taken.{Taken};
-ghost use Rattle.craq_picture.specs.Drawn.{arrivals_from, arrow_of, arrows_of, columns_of, joined_in, receivers_of, rows_from, sends_from, sends_in};
+ghost use Rattle.craq_picture.specs.Drawn.{arrivals_from, arrow_of, arrows_of, columns_of, is_at_master, joined_in, master_in, receivers_of, rows_from, sends_from, sends_in};
 
 use craq_model::{Out, Why};
 use craq_names::{Items, NodeId};
@@ -52,7 +52,7 @@ pub struct Row {
 /// A run as columns, rows and arrows.
 #[derive(Drop)]
 pub struct Drawing {
-    /// The master, the members before the first move, and each node that joined.
+    /// The master if a move is at it, the members before the first move, and each node that joined.
     pub columns: Items<NodeId>,
     /// A row for each move.
     pub rows: Items<Row>,
@@ -150,15 +150,38 @@ fn rows_of(
     Ok(rows)
 }
 
-/// Returns the master, the opening members, and each node that joined.
+/// Returns the master if a move is at it, the opening members, and each node that joined.
 fn columns_of(alloc: Global, run: &Run) -> Result<Items<NodeId>, AllocError>
     ensures { IfOk result (λ columns. columns ≡ columns_of run.now) }
 {
     let mut columns = Items::new(alloc);
-    columns.push(NodeId::new(0))?;
+    add_master(&mut columns, run.moves.as_slice())?;
     add_members(&mut columns, run.members.as_slice())?;
     add_joined(&mut columns, run.moves.as_slice())?;
     Ok(columns)
+}
+
+/// Reports whether a move is at the master.
+fn is_at_master(chosen: &Move) -> bool
+    ensures { result ≡ is_at_master chosen.now }
+{
+    match chosen {
+        Move::Tick(node) => node.get() == 0,
+        Move::Remove(_) | Move::Join(_) => true,
+        Move::Ask { node: _, ask: _ } | Move::Deliver(_) | Move::Stop(_) => false,
+    }
+}
+
+/// Adds the master if a move is at it.
+fn add_master(columns: &mut Items<NodeId>, moves: &[Taken]) -> Result<(), AllocError>
+    ensures { OnOk result (columns.new ≡ columns.old ++ master_in moves.now) }
+{
+    for taken in moves {
+        if is_at_master(&taken.chosen) {
+            return columns.push(NodeId::new(0));
+        }
+    }
+    Ok(())
 }
 
 /// Adds these nodes.
@@ -183,10 +206,10 @@ fn add_joined(columns: &mut Items<NodeId>, moves: &[Taken]) -> Result<(), AllocE
     Ok(())
 }
 
-/// Computes the drawing of a run: a column for the master and for each node, a row for each move,
-/// and an arrow for each message. An arrow goes from the row that sent the message to the rows that
-/// received it. Each row has the number of updates committed after it, by the linearization
-/// witness.
+/// Computes the drawing of a run: a column for each node, and for the master if a move is at it, a
+/// row for each move, and an arrow for each message. An arrow goes from the row that sent the
+/// message to the rows that received it. Each row has the number of updates committed after it, by
+/// the linearization witness.
 ///
 /// Fails only when out of memory. Takes time proportional to moves times messages.
 #[tactic(auto, using(crate::proofs::Counts::each_message, crate::proofs::Counts::each_move))]

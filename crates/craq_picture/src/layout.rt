@@ -7,19 +7,27 @@ use craq_runs::{Move, Taken};
 use std::alloc::{AllocError, Global};
 
 /// The distance of the first column from the left.
-const FIRST_COLUMN: u64 = 250;
+const FIRST_COLUMN: u64 = 152;
 
-/// The distance between columns.
-const COLUMN: u64 = 175;
+/// The distance between columns, and that of at most three.
+const COLUMN: u64 = 150;
+
+const FEW_COLUMNS: u64 = 190;
+
+/// The width right of the last column, for a reply and the commit index, and the least width of a
+/// picture. Four columns fit the least width, so a page shows the texts at their size.
+const LAST_COLUMN: u64 = 194;
+
+const LEAST_WIDTH: u64 = 800;
 
 /// The distance of the first row from the top.
 const FIRST_ROW: u64 = 66;
 
 /// The height of one line of a row, and of one line of the legend.
-pub(crate) const LINE: u64 = 15;
+pub(crate) const LINE: u64 = 17;
 
 /// The gap between a row and the one above it, without its lines.
-const GAP: u64 = 12;
+const GAP: u64 = 13;
 
 /// A point of the picture.
 #[derive(Clone, Copy)]
@@ -44,7 +52,17 @@ impl Layout<'_> {
             .iter()
             .position(|column| *column == node)
             .unwrap_or(0);
-        nth_column(index as u64)
+        self.nth_column(index as u64)
+    }
+
+    /// Returns the distance from the left of the column of this index, counted from 0.
+    fn nth_column(&self, index: u64) -> u64 {
+        let distance = if self.columns.len() <= 3 {
+            FEW_COLUMNS
+        } else {
+            COLUMN
+        };
+        index.saturating_mul(distance).saturating_add(FIRST_COLUMN)
     }
 
     /// Returns the distance of a move's row from the top; moves are numbered from 1.
@@ -63,10 +81,17 @@ impl Layout<'_> {
         self.tops.last().copied().unwrap_or(FIRST_ROW)
     }
 
-    /// Returns the distance from the left of the committed numbers: right of all columns, and of
-    /// the longest reply at the last one.
+    /// Returns the width of the picture.
+    pub(crate) fn width(&self) -> u64 {
+        let last = (self.columns.len() as u64).saturating_sub(1);
+        self.nth_column(last)
+            .saturating_add(LAST_COLUMN)
+            .max(LEAST_WIDTH)
+    }
+
+    /// Returns the distance from the left of the right ends of the committed numbers.
     pub(crate) fn side(&self) -> u64 {
-        nth_column(self.columns.len() as u64).saturating_add(110)
+        self.width().saturating_sub(10)
     }
 
     /// Returns the distance from the top of a move's output at index `place`. The first output lies
@@ -84,11 +109,6 @@ impl Layout<'_> {
             y: self.out_down(number, first, place),
         }
     }
-}
-
-/// Returns the distance from the left of the column of this index, counted from 0.
-fn nth_column(index: u64) -> u64 {
-    index.saturating_mul(COLUMN).saturating_add(FIRST_COLUMN)
 }
 
 /// Returns how far below its row a move's first output lies: one line if a message arrives there,

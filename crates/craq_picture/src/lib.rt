@@ -4,6 +4,7 @@
 #![tactic(auto)]
 
 mod arrows;
+mod board;
 mod columns;
 mod drawing;
 mod labels;

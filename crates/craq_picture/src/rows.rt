@@ -1,6 +1,7 @@
 //! Draws the rows: each move's request, its node, its replies, and the number of updates committed
 //! after it; called by `painting`.
 use crate::Row;
+use crate::board::{Board, Kind, Spot};
 use crate::labels::print_move;
 use crate::layout::{Layout, Point, first_out};
 use crate::pen::{Side, draw_box, draw_cross, draw_dot, draw_line, draw_text};
@@ -18,11 +19,6 @@ pub(crate) struct Numbered<'a> {
     pub(crate) taken: &'a Taken,
 }
 
-/// Returns the width of the picture.
-pub(crate) fn width_of(layout: &Layout<'_>) -> u64 {
-    layout.side().saturating_add(60)
-}
-
 /// Draws a paler background behind every second row.
 fn draw_band(svg: &mut String, layout: &Layout<'_>, number: u64) -> Result<(), AllocError> {
     if number % 2 == 1 {
@@ -34,11 +30,11 @@ fn draw_band(svg: &mut String, layout: &Layout<'_>, number: u64) -> Result<(), A
         x: 0,
         y: top.saturating_sub(14),
     };
-    draw_box(svg, "band", at, width_of(layout), height)
+    draw_box(svg, "band", at, layout.width(), height)
 }
 
-/// Draws a move's number and request, left of the columns.
-fn draw_words(
+/// Draws a move's number, left of the columns.
+fn draw_number(
     alloc: Global,
     svg: &mut String,
     layout: &Layout<'_>,
@@ -48,10 +44,26 @@ fn draw_words(
     let mut words = String::new(alloc);
     let number = numbered.number;
     write!(words, "{number}")?;
-    draw_text(svg, "faint", Point { x: 32, y }, Side::Left, words.as_str())?;
+    draw_text(svg, "faint", Point { x: 26, y }, Side::Left, words.as_str())
+}
+
+/// Places a move's request, left of the columns.
+fn place_words(
+    alloc: Global,
+    board: &mut Board,
+    layout: &Layout<'_>,
+    numbered: &Numbered<'_>,
+) -> Result<(), AllocError> {
     let mut words = String::new(alloc);
     print_move(&mut words, &numbered.taken.chosen)?;
-    draw_text(svg, "move", Point { x: 42, y }, Side::Right, words.as_str())
+    let spot = Spot {
+        at: Point {
+            x: 34,
+            y: layout.down(numbered.number).saturating_add(4),
+        },
+        side: Side::Right,
+    };
+    board.place(Kind::Move, words, [spot, spot, spot, spot])
 }
 
 /// Draws the number of updates committed after a move, bold if it is more than before the move.
@@ -74,11 +86,11 @@ fn draw_committed(
     } else {
         "grown"
     };
-    draw_text(svg, class, at, Side::Middle, words.as_str())
+    draw_text(svg, class, at, Side::Left, words.as_str())
 }
 
-/// Draws the rows' backgrounds, the words left of the columns, and the committed numbers right of
-/// them.
+/// Draws the rows' backgrounds, the moves' numbers left of the columns, and the committed numbers
+/// right of them.
 pub(crate) fn draw_margins(
     alloc: Global,
     svg: &mut String,
@@ -96,7 +108,7 @@ pub(crate) fn draw_margins(
             taken,
         };
         draw_band(svg, layout, number)?;
-        draw_words(alloc, svg, layout, &numbered)?;
+        draw_number(alloc, svg, layout, &numbered)?;
         draw_committed(alloc, svg, layout, &numbered, before)?;
         before = row.committed;
     }
@@ -113,10 +125,29 @@ fn place_of(places: &[Place], node: NodeId, ticket: Ticket) -> Option<u64> {
     None
 }
 
-/// Draws a reply, with its linearization point if it has one.
-fn draw_answer(
+/// Returns the places of a label beside a column, at this height: right of it, then left.
+fn beside(x: u64, y: u64) -> [Spot; 4] {
+    let right = Spot {
+        at: Point {
+            x: x.saturating_add(9),
+            y: y.saturating_add(4),
+        },
+        side: Side::Right,
+    };
+    let left = Spot {
+        at: Point {
+            x: x.saturating_sub(9),
+            y: y.saturating_add(4),
+        },
+        side: Side::Left,
+    };
+    [right, left, right, left]
+}
+
+/// Places a reply, with its linearization point if it has one.
+fn place_answer(
     alloc: Global,
-    svg: &mut String,
+    board: &mut Board,
     at: Point,
     ticket: Ticket,
     answer: &Answer,
@@ -124,22 +155,18 @@ fn draw_answer(
 ) -> Result<(), AllocError> {
     let mut words = String::new(alloc);
     let ticket = ticket.get();
-    write!(words, "answer {ticket} ")?;
+    write!(words, "a{ticket} ")?;
     if let Some(position) = place {
         write!(words, "@{position} ")?;
     }
     print_answer(&mut words, answer)?;
-    let at = Point {
-        x: at.x.saturating_add(9),
-        y: at.y.saturating_add(4),
-    };
-    draw_text(svg, "answer", at, Side::Right, words.as_str())
+    board.place(Kind::Reply, words, beside(at.x, at.y))
 }
 
-/// Draws the replies among the outputs of a move.
-fn draw_answers(
+/// Places the replies among the outputs of a move.
+fn place_answers(
     alloc: Global,
-    svg: &mut String,
+    board: &mut Board,
     layout: &Layout<'_>,
     numbered: &Numbered<'_>,
     places: &[Place],
@@ -150,7 +177,7 @@ fn draw_answers(
         if let Out::Answer { ticket, answer } = out {
             let at = layout.out_at(&numbered.row, numbered.number, first, place as u64);
             let stands = place_of(places, node, *ticket);
-            draw_answer(alloc, svg, at, *ticket, answer, stands)?;
+            place_answer(alloc, board, at, *ticket, answer, stands)?;
         }
     }
     Ok(())
@@ -176,9 +203,10 @@ fn draw_place(
     draw_dot(svg, "dot", at)
 }
 
-/// Draws a word at the column of a node that the master removes or adds.
-fn draw_membership(
-    svg: &mut String,
+/// Places a word at the column of a node that the master removes or adds.
+fn place_membership(
+    alloc: Global,
+    board: &mut Board,
     layout: &Layout<'_>,
     numbered: &Numbered<'_>,
 ) -> Result<(), AllocError> {
@@ -187,17 +215,36 @@ fn draw_membership(
         Move::Join(node) => (*node, "joins"),
         _ => return Ok(()),
     };
-    let at = Point {
-        x: layout.across(node).saturating_add(9),
-        y: layout.down(numbered.number).saturating_add(4),
-    };
-    draw_text(svg, "why", at, Side::Right, word)
+    let mut words = String::new(alloc);
+    words.push_str(word)?;
+    let spots = beside(layout.across(node), layout.down(numbered.number));
+    board.place(Kind::Reason, words, spots)
 }
 
-/// Draws the point of each move, and its replies.
-pub(crate) fn draw_moves(
-    alloc: Global,
+/// Draws the point of each move.
+pub(crate) fn draw_points(
     svg: &mut String,
+    layout: &Layout<'_>,
+    rows: &[Row],
+    moves: &[Taken],
+) -> Result<(), AllocError> {
+    let mut number = 0u64;
+    for (row, taken) in rows.iter().zip(moves) {
+        number = number.saturating_add(1);
+        let numbered = Numbered {
+            number,
+            row: *row,
+            taken,
+        };
+        draw_place(svg, layout, &numbered)?;
+    }
+    Ok(())
+}
+
+/// Places the words of each move: its request, its replies, and the node that it removes or adds.
+pub(crate) fn place_replies(
+    alloc: Global,
+    board: &mut Board,
     layout: &Layout<'_>,
     rows: &[Row],
     moves: &[Taken],
@@ -211,9 +258,9 @@ pub(crate) fn draw_moves(
             row: *row,
             taken,
         };
-        draw_place(svg, layout, &numbered)?;
-        draw_membership(svg, layout, &numbered)?;
-        draw_answers(alloc, svg, layout, &numbered, places)?;
+        place_words(alloc, board, layout, &numbered)?;
+        place_membership(alloc, board, layout, &numbered)?;
+        place_answers(alloc, board, layout, &numbered, places)?;
     }
     Ok(())
 }

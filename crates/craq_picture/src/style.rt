@@ -3,12 +3,12 @@
 
 /// The text before the shapes: the colours by class, and the arrowhead.
 pub(crate) const STYLE: &str = "<style>
-text { font: 11px 'DejaVu Sans', Verdana, sans-serif; fill: #1c2733; }
+text { font: 12px 'DejaVu Sans', Verdana, sans-serif; fill: #1c2733; }
 .label, .answer, .why, .who { paint-order: stroke; stroke: #ffffff; stroke-width: 5px; stroke-linejoin: round; }
 .name { font-weight: bold; font-size: 13px; }
 .faint { fill: #5c6873; }
-.who { font-size: 9px; fill: #5c6873; }
-.answer { fill: #14632c; font-weight: bold; }
+.who { fill: #5c6873; }
+.answer { fill: #14632c; }
 .why { font-style: italic; fill: #8a4b00; }
 .life { stroke: #9aa5b1; stroke-width: 1.5; fill: none; }
 .busy { stroke: #5c6873; stroke-width: 5; fill: none; }

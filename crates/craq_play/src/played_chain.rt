@@ -1,6 +1,6 @@
 //! `PlayedChain`: the world of one chain on which a script is played; also used by
 //! `craq_schedules` and `craq_lab`.
-ghost use Rattle.std.specs.Prelude.{◌≡◌, ◌≤◌, ◌⊎◌, ◌↔◌, IfOk, IfErr, OnOk, length};
+ghost use Rattle.std.specs.Prelude.{◌≡◌, ◌≤◌, ◌⊎◌, ◌↔◌, Err, IfOk, IfErr, OnOk, length};
 ghost use Rattle.std.specs.List.{AllZip};
 ghost use Rattle.craq_model.specs.Members.{IsMembership};
 ghost use Rattle.craq_runs.specs.Explain.{explain};
@@ -10,6 +10,7 @@ ghost use Rattle.craq_chain.specs.Chained.{GivesMove, chain_of_run, mover, opene
 ghost use Rattle.craq_world.specs.Promise.{BeginsAs, ChainIsExplained};
 
 use craq_chain::ChainCore;
+use craq_epochs::is_membership;
 use craq_names::{ChainId, Items, NodeId, Refusal};
 use craq_node::Core;
 use craq_runs::{Explanation, Move, Run};
@@ -40,15 +41,18 @@ impl<C: Core> Model for PlayedChain<C> {
 impl<C: Core> PlayedChain<C> {
     /// Opens chain 0 with these members, head first, before any move. Its empty run is explained.
     ///
-    /// `BadConfig` only if they are no membership: 1 to 8 ids from 1, none twice. `Memory` if an
+    /// `BadConfig` exactly if they are no membership: 1 to 8 ids from 1, none twice. `Memory` if an
     /// allocation failed.
     #[tactic(auto, using(crate::proofs::Alone::one_chain))]
     pub fn open(alloc: Global, members: &[NodeId]) -> Result<Self, Refusal>
         ensures ok { IfOk result (λ w. w ≡ opened_chain 0 members.now) }
         ensures explained { IfOk result (λ w. ChainIsExplained 0 w) }
-        ensures bad { IfErr result (λ e. e ≡ Refusal.BadConfig → ¬ (IsMembership members.now)) }
+        ensures bad { (result ≡ Err Refusal.BadConfig) ↔ ¬ (IsMembership members.now) }
         ensures err { IfErr result (λ e. (e ≡ Refusal.BadConfig) ⊎ (e ≡ Refusal.Memory)) }
     {
+        if !is_membership(members) {
+            return Err(Refusal::BadConfig);
+        }
         let members = Items::of(Vec::from_slice(alloc, members)?);
         let world = World::open(alloc, &[members])?;
         Ok(PlayedChain { world })

@@ -199,6 +199,13 @@ impl<C: Core> Cell<C> {
         &self.opening
     }
 
+    /// Returns the node's core. Never allocates.
+    pub fn core(&self) -> &C
+        ensures { result.now ≡ self.now.inside }
+    {
+        &self.core
+    }
+
     /// Returns the node's switch, stopped exactly if the node does not run. Never allocates.
     pub fn switch(&self) -> &Switch
         ensures { (p : Plain) → C.represents self.now.inside p → result.now ≡ record { name = p.name; running = p.running } }

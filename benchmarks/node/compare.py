@@ -65,4 +65,5 @@ def main():
               f"proved {growth[0]:.2f}, plain {growth[1]:.2f}, times {growth[0] / growth[1]:.2f}")
 
 
-main()
+if __name__ == "__main__":
+    main()

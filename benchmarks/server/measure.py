@@ -1,6 +1,7 @@
 """Measures craqd beside redis and memcached in one run, and writes a table, a chart and the data.
 
     benchmarks/server/measure CRAQD [--out FOLDER] [--quick] [OPTION ..]
+    benchmarks/server/measure --draw FOLDER       draws RESULTS.svg anew from RESULTS.csv
 
 CRAQD is the program as ./build made it. `rustc -O` builds the load client load.rs, and
 `redis-server` and `memcached` are Debian's packages. With --out it writes RESULTS.md, RESULTS.svg
@@ -25,8 +26,10 @@ import subprocess
 import sys
 import tempfile
 import time
+from types import SimpleNamespace
 from typing import NamedTuple
 
+from benchmarks.note import commit, machine
 from benchmarks.server import report, servers
 
 HERE = os.path.dirname(os.path.realpath(__file__))
@@ -155,9 +158,10 @@ def times_of_processors():
 
 
 def heading(options, before):
-    """Returns the line above the table: the day, what was asked for, and how busy the machine was."""
+    """Returns the line above the table: the day, what was asked for, how busy the machine was, the
+    machine, and the commit of the sources."""
     all_time, idle, steal = (late - early for early, late in zip(before, times_of_processors()))
-    busy = f"idle {idle / all_time:.0%}, steal {steal / all_time:.0%}, {os.cpu_count()} processors"
+    busy = f"idle {idle / all_time:.0%}, steal {steal / all_time:.0%}, {machine()}, commit {commit()}"
     chains = f"{options.chains} chain{'s' if options.chains > 1 else ''} of three nodes"
     values = f"values of {options.size} bytes, {chains}"
     client = f", a load client of {options.load_threads} threads" if options.load_threads else ""
@@ -241,7 +245,20 @@ def write_data(folder, run):
                 lines.writerow([*case, name, number, *(f"{it:.10g}" for it in measure)])
 
 
+def data_of(folder):
+    """Returns what RESULTS.csv has of each case and server: a measure of each round."""
+    found = {}
+    with open(os.path.join(folder, "RESULTS.csv"), encoding="utf-8", newline="") as it:
+        for mix, keys, connections, rate, name, _, *measure in list(csv.reader(it))[1:]:
+            case = Case(mix, int(keys), int(connections), int(rate))
+            found.setdefault((case, name), []).append(Measure(*map(float, measure)))
+    return SimpleNamespace(found=found)
+
+
 def main():
+    if sys.argv[1:2] == ["--draw"] and len(sys.argv) == 3:
+        write(sys.argv[2], "RESULTS.svg", report.chart(data_of(sys.argv[2]), MIXES))
+        return
     options = asked_for()
     before = times_of_processors()
     with tempfile.TemporaryDirectory() as folder:

@@ -4,10 +4,21 @@ from xml.sax.saxutils import escape
 
 BESIDE = "redis"
 MICRO = "µs"
-# The chart: its width, that of its three columns and of their bars, the height of a bar with its
-# gap, and the letters.
-WIDTH, COLUMN, BAR, STEP, LETTERS = 900, 290, 170, 19, 13
-COLOURS = ("#1d6fa5", "#8fc1e3", "#c0392b", "#7f8c8d", "#27ae60", "#8e44ad")
+# The chart: its width, that of its three columns and of their bars, and the height of a bar with its
+# gap.
+WIDTH, COLUMN, BAR, STEP = 800, 262, 155, 19
+# The colours of the servers on a light ground and on a dark one.
+COLOURS = (("#1f5fa8", "#79b4f2"), ("#8fb8e4", "#3f6ea3"), ("#b3261e", "#f2827d"), ("#7b8794", "#98a4b0"),
+           ("#2c7a45", "#58b878"), ("#7b3fa0", "#c39bdf"))
+SHADES = """text { fill: %s; }
+.paper { fill: %s; }
+.head { fill: %s; }
+.spread { stroke: %s; }
+"""
+STYLE = """text { font: 12px 'DejaVu Sans', Verdana, sans-serif; }
+.title { font-weight: bold; font-size: 14px; }
+.spread { stroke-width: 1.5; }
+"""
 # A bar is cut where it would be longer than this many times that of redis.
 CUT = 4
 
@@ -107,39 +118,39 @@ def bars(x, y, values, forms, most):
     """Returns bars with their values: for each server the least, the median and the greatest of its
     rounds."""
     found = []
-    for at, (colour, (least, middle, greatest)) in enumerate(values):
+    for at, (server, (least, middle, greatest)) in enumerate(values):
         top, scale = y + at * STEP, BAR / most
         length = min(middle, most) * scale
-        found.append(f'<rect x="{x}" y="{top}" width="{length:.1f}" height="{STEP - 5}" fill="{colour}"/>')
+        found.append(f'<rect class="{server}" x="{x}" y="{top}" width="{length:.1f}" height="{STEP - 5}"/>')
         if middle <= most:
             begin, end, line = x + least * scale, x + min(greatest, most) * scale, top + (STEP - 5) / 2
-            found.append(f'<path d="M{begin:.1f} {line}H{end:.1f}" stroke="#222" stroke-width="1.5"/>')
+            found.append(f'<path class="spread" d="M{begin:.1f} {line}H{end:.1f}"/>')
         shown = max(length, min(greatest, most) * scale)
         mark = "" if middle <= most else " (cut)"
         found.append(text(x + shown + 5, top + STEP - 8, forms.format(middle) + mark))
     return found
 
 
-def measures(run, case, field, colours):
-    """Returns the colour and the least, median and greatest of a field for each server that
-    measured the case."""
+def measures(run, case, field, classes):
+    """Returns the class and the least, median and greatest of a field for each server that measured
+    the case."""
     found = []
-    for name, colour in colours.items():
+    for name, server in classes.items():
         if rounds := run.found.get((case, name)):
             values = of(rounds, field)
-            found.append((colour, (min(values), statistics.median(values), max(values))))
+            found.append((server, (min(values), statistics.median(values), max(values))))
     return found
 
 
-def cell(run, case, field, form, x, y, colours):
+def cell(run, case, field, form, x, y, classes):
     """Returns the bars of one case and field. Those much longer than that of redis are cut."""
-    values = measures(run, case, field, colours)
+    values = measures(run, case, field, classes)
     beside = run.found.get((case, BESIDE))
     most = max(greatest for _, (_, _, greatest) in values)
     return bars(x, y, values, form, min(most, CUT * median(beside, field)) if beside else most)
 
 
-def closed_part(run, mixes, y, colours):
+def closed_part(run, mixes, y, classes):
     """Returns the rows of mixes with a column for each number of keys, and the place below them."""
     cases = [it for it in dict.fromkeys(case for case, _ in run.found) if not it.rate]
     columns = list(dict.fromkeys((it.keys, it.connections) for it in cases))[:3]
@@ -152,12 +163,12 @@ def closed_part(run, mixes, y, colours):
         found.append(text(10, y, mixes[mix]))
         for at, (keys, many) in enumerate(columns):
             for case in (it for it in cases if (it.mix, it.keys, it.connections) == (mix, keys, many)):
-                found += cell(run, case, "rate", "{:,.0f}", 10 + at * COLUMN, y + 8, colours)
-        y += 34 + STEP * len(colours)
+                found += cell(run, case, "rate", "{:,.0f}", 10 + at * COLUMN, y + 8, classes)
+        y += 34 + STEP * len(classes)
     return found, y
 
 
-def open_part(run, mixes, y, colours):
+def open_part(run, mixes, y, classes):
     """Returns the rows of rates with a column for each of three figures, and the place below them."""
     cases = [it for it in dict.fromkeys(case for case, _ in run.found) if it.rate]
     if not cases:
@@ -173,26 +184,36 @@ def open_part(run, mixes, y, colours):
     for case in cases:
         found.append(text(10, y, f"{mixes[case.mix]}, {case.rate:,} a second"))
         for at, (field, _, form) in enumerate(columns):
-            found += cell(run, case, field, form, 10 + at * COLUMN, y + 8, colours)
-        y += 34 + STEP * len(colours)
+            found += cell(run, case, field, form, 10 + at * COLUMN, y + 8, classes)
+        y += 34 + STEP * len(classes)
     return found, y
+
+
+def style_of(servers):
+    """Returns the colours of the chart, on a light ground and on a dark one."""
+    rules = []
+    for shade, inks in enumerate((("#1c2733", "#ffffff", "#4d5965", "#1c2733"),
+                                  ("#dde4ea", "#14191f", "#a3afbb", "#dde4ea"))):
+        colours = "".join(f".s{at} {{ fill: {COLOURS[at % len(COLOURS)][shade]}; }}\n"
+                          for at in range(servers))
+        rules.append(SHADES % inks + colours)
+    return (f"<style>\n{STYLE}{rules[0]}"
+            f"@media screen and (prefers-color-scheme: dark) {{\n{rules[1]}}}\n</style>")
 
 
 def chart(run, mixes):
     """Returns the chart as SVG: bars of the medians, with a line from the least to the greatest of
     the rounds."""
     names = list(dict.fromkeys(name for _, name in run.found))
-    colours = {name: COLOURS[at % len(COLOURS)] for at, name in enumerate(names)}
+    classes = {name: f"s{at}" for at, name in enumerate(names)}
     found = []
-    for at, (name, colour) in enumerate(colours.items()):
-        found.append(f'<rect x="{10 + at * 200}" y="10" width="14" height="14" fill="{colour}"/>')
-        found.append(text(30 + at * 200, 22, name))
-    closed, y = closed_part(run, mixes, 56, colours)
-    paced, y = open_part(run, mixes, y + 16, colours)
-    style = (f"text{{font:{LETTERS}px sans-serif;fill:#222}}.title{{font-weight:bold;font-size:15px}}"
-             f".head{{fill:#555}}")
+    for at, (name, server) in enumerate(classes.items()):
+        found.append(f'<rect class="{server}" x="{10 + at * 150}" y="10" width="14" height="14"/>')
+        found.append(text(30 + at * 150, 22, name))
+    closed, y = closed_part(run, mixes, 56, classes)
+    paced, y = open_part(run, mixes, y + 16, classes)
     size = f'viewBox="0 0 {WIDTH} {y}" width="{WIDTH}" height="{y}"'
-    head = f'<svg xmlns="http://www.w3.org/2000/svg" {size} role="img">'
-    lines = [head, f"<style>{style}</style>", f'<rect width="{WIDTH}" height="{y}" fill="#fff"/>', *found,
-             *closed, *paced]
+    lines = [f'<svg xmlns="http://www.w3.org/2000/svg" {size} role="img">',
+             "<title>craqd beside other servers</title>", style_of(len(names)),
+             f'<rect class="paper" width="{WIDTH}" height="{y}"/>', *found, *closed, *paced]
     return "\n".join([*lines, "</svg>"]) + "\n"

@@ -20,7 +20,7 @@ from tools import repository
 from tools.release import helps
 
 PROGRAMS = ("craqd", "craq", "craq_lab")
-PAGES = ("GUIDE", "CRAQ", "SERVER", "GUARANTEES", "BYTES", "SCRIPTS", "RECOVERY")
+PAGES = ("GUIDE", "CRAQ", "SERVER", "GUARANTEES", "BYTES", "SCRIPTS", "OPERATIONS")
 # Where files of the repository stand in the archive.
 COPIED = {
     "LICENSE": "LICENSE", "examples/plan.toml": "etc/jilsdau/plan.toml",

@@ -29,7 +29,7 @@ NEEDED = (
     *(f"share/bash-completion/completions/{it}" for it in ("craqd", "craq", "craq_lab", "jilsdau")))
 # Completions: the program, the word that is typed, and the one that has to come.
 COMPLETED = (("craqd", "--thr", "--threads"), ("craqd", "--until", "--until-input-ends"),
-             ("craq", "--conn", "--connect"),
+             ("craq", "--js", "--json"),
              ("craq", "appe", "append"), ("craq_lab", "pla", "play"), ("jilsdau", "memb", "members"))
 
 

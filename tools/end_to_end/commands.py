@@ -102,7 +102,7 @@ NO_COMMAND = [
     ("read bounded:4294967296 k", "bounded:4294967296", "MODE"), ("read strong k k", "k", "no more words"), ("deliver 1", "deliver", "a command"),
     ("tick 1", "tick", "a command"), ("stop 1", "stop", "a command"), ("remove 1", "remove", "a command"), ("join 6", "join", "a command"),
     ("explain", "explain", "a command"), ("status now", "now", "no more words"), ("shell now", "now", "no more words"),
-    ("watch 0", "0", "SECONDS"), ("watch 86401", "86401", "SECONDS"), ("watch 1 1", "1", "no more words"), ("bench", None, "CONNECTIONS"),
+    ("watch 0", "0", "SECONDS"), ("watch 86401", "86401", "SECONDS"), ("watch 1 1", "1", "no more words"), ("bench 5", None, "SECONDS"),
     ("bench 0 1 50", "0", "CONNECTIONS"), ("bench 1001 1 50", "1001", "CONNECTIONS"), ("bench 1 0 50", "0", "SECONDS"),
     ("bench 1 1 101", "101", "READS"), ("bench 1 1 50 1", "1", "no more words"),
 ]
@@ -250,7 +250,7 @@ def asked_of(craq, reply):
 
 def helps(checks, craq, craqd):
     for program, words in (craq, "set get cas add sub txn members health put tas append prepend inc dec mini read status shell watch bench "
-                              "--connect --node --pass --chain --client --number --hex --json --print-pass"), (craqd, "--journal --connections --control stop remove join CHAIN/NODE PLAN ADDRESS"):
+                              "--connect --node --pass --chain --client --number --hex --json --print-pass --connections --seconds --mix --keys --size --metrics"), (craqd, "--journal --connections --control --metrics stop remove join CHAIN/NODE PLAN ADDRESS"):
         status, out, err = running.ended([program, "--help"])
         missing = [it for it in words.split() if it not in out]
         name = program.rpartition("/")[2]

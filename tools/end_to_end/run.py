@@ -10,8 +10,8 @@ import sys
 import time
 
 from tools.checks import Checks
-from tools.end_to_end import (bad_input, clients, commands, control, endings, faults, human, limits, peers, prompts,
-                              running, signals)
+from tools.end_to_end import (bad_input, clients, commands, control, endings, faults, human, limits, metrics, peers,
+                              prompts, running, signals)
 from tools.sockets import free_port
 
 CONNECTIONS, GARBAGE, WAITING = 1_600, 1_000, 20
@@ -85,6 +85,7 @@ def main():
     endings.tried(checks, craqd)
     peers.tried(checks, craqd)
     control.tried(checks, craqd)
+    metrics.tried(checks, craqd, craq)
     checks.part("signals", signals.tried, craqd)
     checks.part("craq as a prompt", prompts.all_of, craqd, craq)
     checks.part("craq's verbs for people", human.all_of, craqd, craq, nowhere)

@@ -1,36 +1,26 @@
-"""The table of docs/proof/TESTED.md that says what each part tried last: `tools/hostile/run --note`
-writes the rows of its parts anew."""
+"""The last results of the parts, in tools/pages/hostile.tsv: `tools/hostile/run --note` writes the
+rows of its parts anew, and docs/proof/TESTED.md with them."""
 import os
-import re
 import subprocess
 import time
 
 from tools import repository
-
-PAGE = "docs/proof/TESTED.md"
-HEAD = "| Part | Of | Tried | Checks |\n|---|---|---|---|\n"
-ROW = re.compile(r"\| `(\w+)` \|[^\n]*\n")
+from tools.pages import generated, results
 
 
 def of():
-    """Returns the commit of the programs, the time at which they were tried, and the number of
-    processors."""
+    """Returns the commit of the programs, the date, and the number of processors."""
     commit = subprocess.run(["git", "rev-parse", "--short", "HEAD"], cwd=repository.TOP, capture_output=True,
                             text=True, check=True).stdout.strip()
-    return f"{commit}, {time.strftime('%-d %B %Y')}, {len(os.sched_getaffinity(0))} processors"
+    return commit, time.strftime("%Y-%m-%d"), str(len(os.sched_getaffinity(0)))
 
 
 def note(rows):
-    """Writes the rows of these parts: by name what was tried, and how many checks passed and
-    failed, in words."""
-    before, head, rest = repository.text_of(PAGE).partition(HEAD)
-    if not head:
-        raise ValueError(f"{PAGE} has no table with the head {HEAD!r}")
-    known, at = {}, 0
-    while found := ROW.match(rest, at):
-        known[found[1]] = found[0]
-        at = found.end()
-    known.update({name: f"| `{name}` | {of()} | {told.replace('|', '/')} | {checks} |\n" for name,
-                  (told, checks) in rows.items()})
-    with open(repository.path(PAGE), "w", encoding="utf-8") as it:
-        it.write(before + HEAD + "".join(known.values()) + rest[at:])
+    """Writes the rows of these parts: by name the numbers of checks that passed and failed, the
+    seconds, and what was tried, in words."""
+    known = {it[0]: it for it in results.stored(results.TABLE)}
+    for name, (*counts, told) in rows.items():
+        known[name] = (name, *of(), *map(str, counts), " ".join(told.split()))
+    with open(repository.path("tools/pages", results.TABLE), "w", encoding="utf-8") as it:
+        it.write("".join("\t".join(row) + "\n" for row in (results.HEAD, *known.values())))
+    generated.write()

@@ -176,7 +176,7 @@ def tried(checks, craq_lab):
         scripts, asks = played(checks, library, craq_lab)
         moves, reasons = quiet(checks, library, craq_lab)
     named = ", ".join(f"{count} in {name}" for name, count in asks.items())
-    seen = "in which call is not seen in this program"
+    seen = "this program does not show in which call"
     if named:
-        seen = f"{named}; {moves} moves ask for none: {', '.join(reasons)}"
-    return f"{scripts} refused asks for memory; {seen}"
+        seen = f"{named}; {moves} moves allocate nothing: {', '.join(reasons)}"
+    return f"{scripts} refused allocations; {seen}"

@@ -175,14 +175,14 @@ def attacked(checks, library, craqd, what, count, name):
                                                                 for it in met)
     checks.that(early > 0, f"some {name} are refused before craqd listens")
     told = f"{len(met)} {name} refused, {early} of them before it listened"
-    return len(met) - early, f"{told}, and {in_the_end} that it told in the end"
+    return len(met) - early, f"{told}, and {in_the_end} that it reported at its end"
 
 
 def all_of(checks, library, craqd):
     """Refuses each ask for memory and each thread in one way of serving, and returns what was
     tried, in words."""
     checks.same("craqd with ample memory", served(craqd, library.refusing()), Run([], 0, True, False))
-    late, memory = attacked(checks, library, craqd, "memory", MEMORY, "asks for memory")
+    late, memory = attacked(checks, library, craqd, "memory", MEMORY, "allocations")
     checks.that(late > MEMORY // 2,
                 f"more than half of {MEMORY} asks for memory are refused after craqd listens: {late}")
     return f"{memory}; {attacked(checks, library, craqd, 'thread', THREADS, 'threads')[1]}"

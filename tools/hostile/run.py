@@ -32,7 +32,7 @@ head of its file:
              parts; the minutes do not count what building takes
 
 What is found wrong is told on standard error. The last line is 'N passed, M failed', and the status
-1 where M is not 0. With --note what each part tried is written into the table of
+1 where M is not 0. With --note what each part tried is written into tools/pages/hostile.tsv and
 docs/proof/TESTED.md, as tried of the programs of the present commit.
 """
 import argparse
@@ -100,8 +100,9 @@ def main():
         before, began = (checks.passed, checks.failed), time.monotonic()
         told = checks.part(name, known[name]) or "stopped"
         passed, failed = checks.passed - before[0], checks.failed - before[1]
-        rows[name] = told, f"{passed} passed, {failed} failed, {time.monotonic() - began:.0f} s"
-        print(f"{name}: {'; '.join(rows[name])}", flush=True)
+        seconds = round(time.monotonic() - began)
+        rows[name] = passed, failed, seconds, told
+        print(f"{name}: {told}; {passed} passed, {failed} failed, {seconds} s", flush=True)
     if asked.note:
         figures.note(rows)
     print(f"{checks.passed} passed, {checks.failed} failed")

@@ -216,7 +216,7 @@ def told(checks, seen, seconds, changes, again, merged):
     checks.that(answered >= ANSWERED and changes >= DUE * seconds and min(lost, repeated, again) > 0,
                 f"members change {changes} times, {answered} asks are answered, {lost} replies lost, "
                 f"{repeated} updates repeated, {again} asked again")
-    return (f"{answered} asks answered and {again} asked again in {seconds:.0f} s while {changes} members "
+    return (f"{answered} requests answered and {again} repeated in {seconds:.0f} s while {changes} members "
             f"stopped, were removed and others joined, "
             f"{lost} replies lost, {repeated} updates repeated, {merged} audits merged")
 

@@ -63,7 +63,7 @@ GROWTH = 24
 PLAYERS, FAR, DRAWS = 2, 1_000_000, 3
 # The counts of all parts together, by name, each with its name in words.
 COUNTED = {"answered": "calls answered", "stops": "stops", "joins": "joins", "lost": "messages lost",
-           "late": "messages or work late", "twice": "messages that came twice",
+           "late": "messages or batches late", "twice": "messages that came twice",
            "unheard": "replies lost", "repeated": "updates repeated", "passes": "reads with a pass",
            "merged": "audits merged"}
 # The counts that five minutes on four processors have to reach.
@@ -318,8 +318,8 @@ def served(checks, craqd, seconds, journal):
     asks, lost, again, shown = (counts[it] for it in ("answered", "unheard", "repeated", "passes"))
     checks.that(min(asks, lost, again, shown) > 0,
                 f"the soak asks a server, loses replies, repeats updates and shows passes: {counts}")
-    return counts, (f"{asks} asks answered {'with' if journal else 'without'} journals, {shown} of them "
-                    f"reads of what all count up with a pass, "
+    return counts, (f"{asks} requests answered {'with' if journal else 'without'} journals, {shown} of "
+                    f"them reads of the shared counter with a pass, "
                     f"{lost} replies lost, {again} updates repeated, {early:.0f} to {late:.0f} MiB")
 
 

@@ -111,7 +111,7 @@ def in_words(found):
     return (f"{len(found)} stores, {counts['answered']} calls answered, {counts['refused']} refused, "
             f"{counts['repeated']} updates repeated, "
             f"{counts['stops']} stops, {counts['joins']} joins, {counts['lost']} messages lost, "
-            f"{counts['twice']} that came twice, {counts['late']} pieces of work late, "
+            f"{counts['twice']} that came twice, {counts['late']} batches late, "
             f"{counts['merged']} audits merged, {min((it.kib for it in found), default=0) // 1024} to "
             f"{max((it.kib for it in found), default=0) // 1024} MiB after a store")
 

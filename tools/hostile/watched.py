@@ -78,4 +78,4 @@ def tried(checks, craq_lab, craqd, seconds=60):
         return "left out: valgrind is not installed"
     played = scripts(checks, craq_lab)
     return f"{played} scripts; " + running.in_each_way(checks, lambda: f"{served(checks, craqd, seconds)} "
-                                                       f"asks of a server in {seconds} s")
+                                                       f"requests to a server in {seconds} s")

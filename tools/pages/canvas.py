@@ -6,7 +6,7 @@ wider than most fonts that a reader's system has.
 from html import escape
 from typing import NamedTuple
 
-WIDTH = 800
+WIDTH, EDGE = 800, 4
 SIZE, HEAD_SIZE, LINE = 12, 13, 16
 # The width of each character from the space to the tilde, in hundredths of the size.
 PLAIN = [32, 40, 46, 84, 64, 95, 78, 27, 39, 39, 50, 84, 32, 36, 32, 34, 64, 64, 64, 64, 64, 64, 64, 64, 64,
@@ -32,6 +32,10 @@ COLOURS = {
     ".trusted": [("fill", "#eceff2", "#262f38"), ("stroke", "#5c6873", "#98a4b0")],
     ".boundary": [("stroke", "#b3261e", "#f2827d")],
     ".warns": [("fill", "#b3261e", "#f2827d")],
+    ".bar1": [("fill", "#1f5fa8", "#79b4f2")],
+    ".bar2": [("fill", "#8fb8e4", "#3f6ea3")],
+    ".bar3": [("fill", "#b3261e", "#f2827d")],
+    ".bar4": [("fill", "#7b8794", "#98a4b0")],
 }
 STYLE = f"""text {{ font: {SIZE}px 'DejaVu Sans', Verdana, Helvetica, sans-serif; }}
 .code {{ font-family: 'DejaVu Sans Mono', Menlo, Consolas, monospace; }}
@@ -83,12 +87,17 @@ def pieces_of(text):
             for at, it in enumerate(found) if it.text]
 
 
+def character_width(character):
+    """Returns the width of a character in hundredths of the size; one that is not ASCII counts as wide."""
+    return PLAIN[ord(character) - 32] if " " <= character <= "~" else 100
+
+
 def width_of(pieces, size=SIZE, is_bold=False):
     """Returns the width of pieces that stand on one line."""
     wide = 0.0
     for at, piece in enumerate(pieces):
         letters = (" " if at and piece.is_spaced else "") + piece.text
-        wide += sum(CODE_WIDTH if piece.is_code else PLAIN[ord(it) - 32] * (BOLD if is_bold else 1)
+        wide += sum(CODE_WIDTH if piece.is_code else character_width(it) * (BOLD if is_bold else 1)
                     for it in letters)
     return wide * size / 100
 

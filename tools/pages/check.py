@@ -4,34 +4,45 @@
                             the status 1 if M is not 0
 
 - paths: each file that a page, a script or crates.txt names in backticks exists
-- layers: docs/develop/ARCHITECTURE.md has the crates of crates.txt, by layer and in order
-- the kit: README.md names the kit's crates of crates.txt as trusted
+- links: each link of a page names a file, and a heading of it (tools/pages/links.py)
+- layers: docs/develop/ARCHITECTURE.md has the layers of crates.txt under their titles, in its
+  picture too, and the crates of each in order
+- the kit: README.md and docs/proof/TRUSTED.md name the kit's crates of crates.txt as trusted
 - refusals: docs/use/BYTES.md, docs/use/SCRIPTS.md, the helps and the client have the numbers of
   craq_names/src/refusal.rt; BYTES and the client have the names too
-- commands: docs/use/SCRIPTS.md, docs/use/CRAQ.md, README.md, the helps of craq_lab and craq, and
-  that of craq's prompt have the commands of craq_script/src/reading.rt
+- commands: docs/use/SCRIPTS.md, docs/use/CRAQ.md, the helps of craq_lab and craq, and that of
+  craq's prompt have the commands of craq_script/src/reading.rt
 - options: docs/use/SERVER.md has craqd's options of craq_cli/src/server.rt and options.rt
 - lists: docs/develop/CHANGING.md lists each file that names the newest command, message or refusal
-- the drawing: each function that docs/develop/ARCHITECTURE.md draws is in the crate beside it
+- the walk: each function that docs/develop/ARCHITECTURE.md names from socket to socket is in the
+  crate beside it
 - diagrams: those of docs/diagrams are drawn from their data, and name what is in the sources
+- pictures of runs: those of docs/pictures have no small text, and no label over an arrow or another
 - threads: each function and type that docs/develop/THREADS.md names is in the crate beside it, or
   in some crate
-- figures: the table of README.md and its date are those of benchmarks/server/RESULTS.md; the table
-  of benchmarks/server/README.md is that of RESULTS.md and MIXES.md there; each other figure of
-  README.md is in one of them
+- figures: the table of README.md is what tools.pages.speed writes from benchmarks/server/RESULTS.md;
+  each other figure of README.md is in that file or MIXES.md there
 - limits: the table of docs/use/GUARANTEES.md has the numbers of the constants and definitions;
-  docs/develop/MESSAGES.md has those of messages between nodes
+  docs/develop/MESSAGES.md has those of messages between nodes, and its worked bytes are those of
+  craq_part_tests/src/links.rt
 - first lines: each module begins with '//! '
 - blocks: a command with '$' before it stands in a block that tools/pages/try runs
 - the surface: each public call and type of tools/pages/surface.txt is in the sources, with its signature
 - the embedded store: docs/use/EMBEDDING.md shows parts of the program of crates/craq_embedding, in
   their order; its line of crates.txt; its output
-- definitions: what docs/proof/PROMISE.md quotes is in craq_runs/specs/Valid.antt
-- sizes: the words of a page, the length of its lines and the words of a table's cell, for the pages
-  of tools/pages/sizes.py
+- the promise: README.md and docs/proof/PROMISE.md have it word for word, as it is specified
+- definitions: what PROMISE and RECOVERY of docs/proof quote is in the sources; PROMISE and
+  each other page that tells it has the lines of definitions that the theorem reaches, and no other
+- scripts: TESTED, TRUSTED and RECOVERY of docs/proof have those of tools/rows
+- READMEs of crates: each names the files of its proofs
+- sizes: the words of each page and of all pages together, the length of lines and the words of a
+  table's cell, by the limits of tools/pages/sizes.py
+- measures: each measured number of a page is in a file of results of benchmarks/, which names its
+  day, its commit and its machine (tools/pages/measures.py)
 - constants: the numbers that pages give for constants of the code, by tools/pages/constants.tsv
-- generated pages: docs/proof/MUTANTS.md and docs/proof/PROVED.md are what tools/pages/generate
-  writes; each edit and each crate has a claim of at most 25 words, each claim its functions
+- generated pages: DEFINITIONS, MUTANTS, PROVED and TESTED of docs/proof are what
+  tools/pages/generate writes; each edit and each crate has a claim of at most 25 words, each claim
+  its functions
 """
 import os
 import re
@@ -40,9 +51,14 @@ import sys
 from tools import repository
 from tools.checks import Checks
 from tools.pages.constants import compare_constants
-from tools.pages.diagrams import diagrams
+from tools.pages.defined import figures_of_claims
+from tools.pages.diagrams import diagrams, is_in, sources_of
 from tools.pages.generated import generated
+from tools.pages.links import links
+from tools.pages.measures import measures
+from tools.pages.runs import pictures_of_runs
 from tools.pages.sizes import sizes
+from tools.pages.speed import speed
 from tools.pages.surface import surface
 
 TOP = repository.TOP
@@ -53,6 +69,13 @@ NEWEST = {"A new command": ["Decrement"], "A new message between nodes": ["Batch
 OTHERWISE = re.compile(r"crates/craq_front/(proofs/Sessions\.antt|specs/Serving\.antt|src/serving\.rt)$|"
                        r"docs/develop/|docs/proof/(PROVED|TESTED|WRONG|PROMISE)|README\.md$|"
                        r"benchmarks/|tools/|.*/(must-fail|wrong)/")
+COUNTED = re.compile(r"\b[\d,]+ lines of definitions")
+# The promise, as the specification of this store has it. Its words are never changed.
+PROMISE = ("Whatever is asked, delivered, lost, repeated, stopped, removed or joined, in any "
+           "order, each chain has one growing list of updates, with no request number twice, "
+           "such that every strong reply is what a single copy answers after a beginning of that "
+           "list that was the whole list at some moment from its ask to its reply, and every "
+           "eventual reply is a version written by updates that were asked.")
 PATH = re.compile(r"`((?:docs|tools|examples|clients|benchmarks|crates)/[\w./-]+|"
                   r"craq\w*/(?:src|specs|proofs|must-fail|wrong|data)\b[\w./-]*)`")
 
@@ -109,6 +132,11 @@ def layers_of_crates():
     return found
 
 
+def titles_of_layers():
+    """Returns the title of each layer of crates.txt, up to a colon."""
+    return dict(re.findall(r"^# ([0-9]+)\. ([^:\n]+)", text_of("crates.txt"), re.M))
+
+
 def layers(checks):
     wanted, page = layers_of_crates(), "docs/develop/ARCHITECTURE.md"
     for layer, crates in wanted.items():
@@ -122,14 +150,15 @@ def layers(checks):
             checks.same_items(f"{page}, layer {layer},",
                               sorted(set(re.findall(r"`(craqd?(?:_\w+)?)`", part)) - below),
                               sorted(crates))
-    told = re.findall(r"\bcraqd?(?:_\w+)?\b",
-                      section(text_of(page), "The layers in one picture").split("Layer 8")[0])
-    for crate in (it for layer, some in wanted.items() if layer != "9" for it in some):
-        checks.that(crate in told, f"the picture of the layers lacks {crate}")
+    picture = section(text_of(page), "The layers in one picture").partition("\nA crate stands")[0]
+    for layer, title in titles_of_layers().items():
+        checks.that(f"\n## {layer}. {title}\n" in text_of(page), f"{page} has no part '{layer}. {title}'")
+        drawn = title[0].lower() + title[1:].partition(",")[0]
+        checks.that(f"{layer}  {drawn}" in picture, f"the picture of the layers lacks '{layer}  {drawn}'")
 
 
 def kit(checks):
-    """Compares the kit's crates below the programs with those that README names."""
+    """Compares the kit's crates below the programs with those that README and TRUSTED name."""
     layers_of = layers_of_crates()
     own = {it for some in layers_of.values() for it in some}
     lines = {made[1]: made[2].split()
@@ -139,6 +168,11 @@ def kit(checks):
     part = section(text_of("README.md"), "What is trusted").split("contracts for the crates")[-1]
     told = re.split(r"Proved\swith", part)[0]
     checks.same_items("README.md, the crates of the kit,", sorted(re.findall(r"`(\w+)`", told)), wanted)
+    checks.same("README.md, the number of crates of the kit",
+                re.findall(r"contracts for (\d+) crates", text_of("README.md")), [str(len(wanted))])
+    table = rows(section(text_of("docs/proof/TRUSTED.md"), "The kit's library"))
+    told = {name for row in table for name in re.findall(r"`(\w+)`", row[0])} - {"std"}
+    checks.same_items("docs/proof/TRUSTED.md, the crates of the kit,", sorted(told), wanted)
 
 
 # Refusals.
@@ -160,9 +194,9 @@ def refusals(checks):
     by_number = {number: name for name, number in wanted.items()}
     page = section(text_of("docs/use/BYTES.md"), "Refusals", "### ")
     table = {int(row[0]): row[1] for row in rows(page) if row[0].isdigit()}
-    others = {int(number): name for number,
-              name in re.findall(r"\b([0-9]+)\s([A-Z]\w+)", page.split("The other numbers")[-1])}
-    checks.same_items("docs/use/BYTES.md, its refusals,", sorted((table | others).items()),
+    others = numbers(page.split("The other numbers")[-1].replace("so 15", ""))
+    checks.same_items("docs/use/BYTES.md, its refusals,",
+                      sorted([*table.items(), *((it, by_number.get(it)) for it in others)]),
                       sorted(by_number.items()))
     client = dict(re.findall(r"\b([0-9]+): \"(\w+)\"", text_of("clients/python/jilsdau/wire.py")))
     checks.same_items("clients/python/jilsdau/wire.py, its refusals,",
@@ -201,8 +235,7 @@ def commands(checks):
               for word in re.findall(r"`([a-z]+)\b", row[0])}
     checks.that(asked <= server, f"docs/use/CRAQ.md lacks the commands {sorted(asked - server)}")
     prompt = re.search(r'const HELP: &str = "(.*?)";', text_of("crates/craq/src/shell.rt"), re.S)
-    for file, text in (("README.md", text_of("README.md")),
-                       ("crates/craq_cli/src/client.rt", text_of("crates/craq_cli/src/client.rt")),
+    for file, text in (("crates/craq_cli/src/client.rt", text_of("crates/craq_cli/src/client.rt")),
                        ("the help of crates/craq/src/shell.rt", prompt[1] if prompt else "")):
         missing = [it for it in sorted(asked) if not re.search(rf"\b{it}\b", text)]
         checks.that(not missing, f"{file} lacks the commands {missing}")
@@ -218,7 +251,7 @@ def options(checks):
     numbers_of = re.search(r"fn name<.*?\{(.*?)\n    \}\n\n", text_of("crates/craq_cli/src/options.rt"),
                            re.S)
     names = re.findall(r'=> "([a-z-]+)"', numbers_of[1] if numbers_of else "")
-    names += re.findall(r'flag_arg\(alloc, "([a-z-]+)"', text_of("crates/craq_cli/src/server.rt"))
+    names += re.findall(r'(?:flag|text)_arg\(alloc, "([a-z-]+)"', text_of("crates/craq_cli/src/server.rt"))
     part = section(text_of("docs/use/SERVER.md"), "The server")
     told = [found[1] for row in rows(part) if (found := re.match(r"`--([a-z-]+)", row[0]))]
     checks.same_items("docs/use/SERVER.md, the options of craqd,", sorted(told), sorted(names))
@@ -276,19 +309,18 @@ def lists(checks, names):
                         f"docs/develop/CHANGING.md, {title}: {name} is not in the list")
 
 
-# The drawing.
+# The walk.
 
-def drawing(checks):
-    part = section(text_of("docs/develop/ARCHITECTURE.md"), "From socket to socket", "### ")
-    part = "\n".join(it for it in part.splitlines() if it.startswith("    "))
-    crates = "|".join(os.listdir(os.path.join(TOP, "crates"))).replace("craq_", "")
-    drawn = re.findall(rf"^[ |]*((?:\w+::)?\w+) +(?:\[[\w ,]+\] +)?({crates})\b", part, re.M)
-    checks.that(len(drawn) > 15, "the drawing from socket to socket was not found")
-    for function, crate in drawn:
-        folder = os.path.join(TOP, "crates", "craq_" + crate, "src")
-        source = "".join(text_of(os.path.join(folder, it)) for it in sorted(os.listdir(folder)))
-        checks.that(re.search(rf"\bfn {function.rpartition('::')[2]}\b", source),
-                    f"the drawing names {function}, which craq_{crate} has not")
+def walk(checks):
+    """Finds each function of the walk from socket to socket in the crate in brackets behind it."""
+    page = "docs/develop/ARCHITECTURE.md"
+    part = section(text_of(page), "From socket to socket", "### ")
+    named = [(function, crate) for names, crate
+             in re.findall(r"((?:`[\w:]+`, )*`[\w:]+`) \(`(craq_\w+)`\)", part)
+             for function in re.findall(r"`([\w:]+)`", names)]
+    checks.that(len(named) > 30, f"{page}: the functions from socket to socket were not found")
+    for function, crate in named:
+        checks.that(is_in(function, sources_of([crate])), f"{page} names {function}, which {crate} has not")
 
 
 # Limits.
@@ -351,6 +383,19 @@ def limits(checks):
                         f"docs/develop/MESSAGES.md, {what}: {found and found[1]}; {place}, {name}: {number}")
 
 
+def worked_bytes(checks):
+    """Finds each message whose bytes MESSAGES has among the arrays of the test of messages."""
+    source = "craq_part_tests/src/links.rt"
+    part = section(text_of("docs/develop/MESSAGES.md"), "Worked bytes")
+    arrays = {bytes(int(it) for it in re.findall(r"\d+", found)) for found
+              in re.findall(r": \[u8; \d+\] = \[([\d,\s]+)\];", text_of(f"crates/{source}"))}
+    told = [row for row in rows(part) if row[1].startswith("`")]
+    checks.that(len(told) > 2, "docs/develop/MESSAGES.md: its worked bytes were not found")
+    for message, written in told:
+        checks.that(bytes.fromhex(written.strip("`")) in arrays,
+                    f"docs/develop/MESSAGES.md has bytes that {source} has not: {message[:30]}")
+
+
 # Threads.
 
 def threads(checks, names):
@@ -383,53 +428,19 @@ def measured(text):
     return found
 
 
-def beside_redis(checks):
-    """Compares the ratios to redis in benchmarks/server/README.md with RESULTS.md or the named part
-    of MIXES.md."""
-    page, mixes = text_of("benchmarks/server/README.md"), text_of("benchmarks/server/MIXES.md")
-    server = re.search(r"`(craqd[^`]*)`, in times redis:\n\n((?:\|.*\n)+)", page)
-    head, *lines = rows(server[2]) if server else [[]]
-    checks.that(len(lines) > 2, "benchmarks/server/README.md: its figures were not found")
-    for of, connections, *told in lines:
-        found = measured(text_of("benchmarks/server/RESULTS.md") if of == "`RESULTS.md`"
-                         else section(mixes, of + "\n"))
-        for asked, times in zip(head[2:], told):
-            wanted = found.get((asked, connections, server[1]), {}).get("Times redis")
-            checks.that(times == wanted, f"benchmarks/server/README.md, {of}, {connections}, {asked}: "
-                        f"{times}; measured: {wanted or 'nothing'}")
-
-
-# The columns of README's table, by the words before the server's name, and those of RESULTS.md.
-COLUMNS = {"": "A second", "Times redis": "Times redis", "µs a reply": "Processor time a reply, µs"}
 
 
 def figures(checks):
-    """Compares README's table with the results. A column has the replies a second of a server, or,
-    with the server's name behind a colon, its ratio to redis or its processor time a reply."""
+    """Compares each number of README's section on speed with the results. Its table is written by
+    tools.pages.speed."""
     result = text_of("benchmarks/server/RESULTS.md")
+    speed(checks)
     part = section(text_of("README.md"), "Speed")
-    connections = re.search(r"^(\d+) connections", part, re.MULTILINE)
-    found = {(asked, server): it for (asked, of, server), it in measured(result).items() if connections
-             and of == connections[1]}
-    head, *lines = rows(part) or [[]]
-    day, setting = result.partition("\n")[0].split(": ")
-    keys = {f"{it['Keys']} keys" for it in list(found.values())[:1] if "Keys" in it}
-    for what in day, *keys, *(it for it in setting.split(", ") if it.endswith("rounds")):
-        checks.that(what in " ".join(part.split()),
-                    f"README.md, its figures: benchmarks/server/RESULTS.md has {what}")
-    checks.that(len(lines) > 2 and found, "README.md: its figures were not found")
-    for row in lines:
-        for title, told in list(zip(head, row))[1:]:
-            kind, _, server = title.rpartition(": ")
-            wanted = found.get((row[0], server), {}).get(COLUMNS.get(kind))
-            checks.that(told == wanted, f"README.md, {row[0]}, {title}: {told}; "
-                        f"benchmarks/server/RESULTS.md: {wanted or 'nothing'}")
     all_measured = {it for row in rows(result + text_of("benchmarks/server/MIXES.md")) for it in row}
     for number in re.findall(r"\b(?:[0-9]+\.[0-9]{2}|[0-9]+(?:,[0-9]{3})+)\b",
                              re.sub(r"^\|.*$", "", part, flags=re.M)):
         checks.that(number in all_measured, f"README.md, its figures: {number}, which neither RESULTS.md nor "
                     f"MIXES.md of benchmarks/server has")
-    beside_redis(checks)
 
 
 # First lines, and blocks.
@@ -471,35 +482,84 @@ def embedded(checks):
 
 
 def quoted(checks):
-    """Compares the definitions that PROMISE quotes with the file that has them."""
-    parts = re.findall(r"^```antt\n(.*?)^```$", text_of("docs/proof/PROMISE.md"), re.M | re.S)
-    checks.that(parts, "docs/proof/PROMISE.md: its quoted definition was not found")
-    for part in parts:
-        found = part in text_of("crates/craq_runs/specs/Valid.antt")
-        checks.that(found, f"docs/proof/PROMISE.md quotes '{part.splitlines()[0]}', which "
-                    f"craq_runs/specs/Valid.antt has not")
+    """Compares the definitions and contracts that proof pages quote with the sources, and the lines
+    that PROMISE counts with those that the definitions have."""
+    sources = [text_of(it) for it in repository.files()
+               if re.fullmatch(r"crates/\w+/(specs/\w+\.antt|src/lib\.rt)", it)]
+    for page in ("PROMISE", "RECOVERY"):
+        parts = re.findall(r"^```antt\n(.*?)^```$", text_of(f"docs/proof/{page}.md"), re.M | re.S)
+        checks.that(parts, f"docs/proof/{page}.md: its quoted definitions were not found")
+        for part in parts:
+            checks.that(any(part in it for it in sources),
+                        f"docs/proof/{page}.md quotes '{part.splitlines()[0]}', which no definition has")
+    figures = figures_of_claims()
+    for name in (it for it in repository.files() if it.endswith(".md")):
+        page = " ".join(text_of(name).split())
+        told = COUNTED.findall(page)
+        for it in figures if name.endswith("/PROMISE.md") else figures[:1] if told else ():
+            checks.that(it in page, f"{name} has to say: {it}")
+        for it in told:
+            checks.that(figures[0].startswith(it), f"{name} says {it}, and the theorem reaches {figures[0]}")
+
+
+def promised(checks):
+    """Compares the promise of README and PROMISE with its words."""
+    for name in "README.md", "docs/proof/PROMISE.md":
+        page = " ".join(re.sub(r"^> ", "", text_of(name), flags=re.M).split())
+        checks.that(PROMISE in page, f"{name} has the promise in other words")
+
+
+def readmes(checks, names):
+    """Compares the README of a crate of laws with the files of its proofs."""
+    found = [it for it in names if re.fullmatch(r"crates/\w+/README\.md", it)]
+    checks.that(found, "the READMEs of crates were not found")
+    for name in found:
+        folder = name.replace("README.md", "proofs/")
+        wanted = {it[len(folder):-len(".antt")] for it in names
+                  if it.startswith(folder) and it.count("/") == 3}
+        told = re.findall(r"`(\w+)`", text_of(name).partition("From the bottom:")[2])
+        checks.same_items(f"{name}, its proofs,", sorted(told), sorted(wanted - {"Lib"}))
+
+
+def scripts(checks, names):
+    """Compares the scripts that proof pages name and count with the files of tools/rows."""
+    worked, mended = ([it for it in names if re.fullmatch(rf"tools/rows/{folder}/[\w-]+\.script", it)]
+                      for folder in ("worked", "recoveries"))
+    for page in "TESTED", "TRUSTED":
+        told = re.findall(r"(?:plays|the) (\d+) (?:worked )?scripts", text_of(f"docs/proof/{page}.md"))
+        checks.same(f"docs/proof/{page}.md, the number of worked scripts", told, [str(len(worked))])
+    table = rows(section(text_of("docs/proof/RECOVERY.md"), "Tested on the program"))[1:]
+    checks.same_items("docs/proof/RECOVERY.md, its scripts,", sorted(it[0].strip("`") for it in table),
+                      sorted(os.path.basename(it)[:-len(".script")] for it in mended))
 
 
 def main():
     checks, names = Checks("pages"), repository.files()
     paths(checks, names)
+    links(checks)
     layers(checks)
     kit(checks)
     refusals(checks)
     commands(checks)
     options(checks)
     lists(checks, names)
-    drawing(checks)
+    walk(checks)
     diagrams(checks)
+    pictures_of_runs(checks)
     limits(checks)
+    worked_bytes(checks)
     threads(checks, names)
     figures(checks)
     heads(checks, names)
     marked(checks, names)
     surface(checks)
     embedded(checks)
+    promised(checks)
     quoted(checks)
+    readmes(checks, names)
+    scripts(checks, names)
     sizes(checks)
+    measures(checks)
     generated(checks)
     compare_constants(checks)
     print(f"pages: {checks.passed + checks.failed} checks, {checks.failed} faults")

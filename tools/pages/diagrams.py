@@ -4,7 +4,8 @@
     tools/python tools.pages.diagrams --write    draws each diagram anew
 
 A diagram is NAME.toml and NAME.svg in docs/diagrams. Names of code stand in backticks in its texts;
-each has to be in the sources. The pictures of runs, in docs/pictures, are drawn by craq_lab.
+each has to be in the sources. The pictures of runs, in docs/pictures, are drawn by craq_lab, and
+tools.pages.runs checks them.
 """
 import glob
 import os
@@ -14,10 +15,10 @@ import tomllib
 
 from tools import repository
 from tools.checks import Checks
-from tools.pages import sequence, stack
+from tools.pages import matrix, sequence, speed, stack
 
 FOLDER = "docs/diagrams"
-DRAWN_BY = {"sequence": sequence.draw, "stack": stack.draw}
+DRAWN_BY = {"bars": speed.draw, "matrix": matrix.draw, "sequence": sequence.draw, "stack": stack.draw}
 LEAST_SIZE = 12
 
 
@@ -75,7 +76,7 @@ def diagrams(checks):
     for name in names[".toml"]:
         data = data_of(name)
         names_in_sources(checks, name, data)
-        used = {row.get(it) for row in data["row"] for it in ("at", "from", "to")}
+        used = {row.get(it) for row in data.get("row", []) for it in ("at", "from", "to")}
         for lane in data.get("lane", []):
             checks.that(lane["name"] in used, f"{FOLDER}/{name}.toml has an empty lane: {lane['name']}")
         canvas = DRAWN_BY[data["kind"]](data)

@@ -1,10 +1,10 @@
-"""Writes the pages that are generated, docs/proof/MUTANTS.md and docs/proof/PROVED.md, and puts the
-rows of tools/pages/mutants.tsv in the order of the crates.
+"""Writes the pages that are generated, DEFINITIONS.md, MUTANTS.md, PROVED.md and TESTED.md of
+docs/proof, and puts the rows of tools/pages/mutants.tsv in the order of the crates.
 
     tools/pages/generate     prints the path of each file that it changed
 
-A page is a template, tools/pages/mutants.md or proved.md, with a text for each line '@NAME@'. The
-texts come from the sources and from tab-separated files beside the templates:
+A page is a template, as tools/pages/mutants.md, with a text for each line '@NAME@'. The texts come
+from the sources (defined.py) and from tab-separated files beside the templates:
 
     proved.tsv           crate, claim, functions whose contracts carry it. The claim of a crate's first
                          row is empty where the first clause of its docstring is the claim. With
@@ -12,38 +12,23 @@ texts come from the sources and from tab-separated files beside the templates:
     mutants.tsv          edit (crate/name), what it does wrong, date when it was last refused
     tested_mutants.tsv   mutants that a test fails: what it does wrong, crate, test, line, note, date
     plant.tsv            the results of `rt plant`, and why a mutant was let through
+    hostile.tsv          the last results of `./hostile --note` (results.py)
 
 tools/pages/check refuses a page that differs from what this module writes, an edit or a crate
-without a claim, a claim of more than 25 words, and a function that the crate does not have.
+without a claim, a claim of more than 25 words, a function that the crate does not have, a module of
+definitions without a first comment, and a template of too many words.
 """
 import re
 import sys
 
 from tools import mutants, repository
+from tools.pages import defined, results
 from tools.pages.sizes import MOST_IN_CELL, words
+from tools.pages.tables import filled, layers, stored, table, wrapped
 
-MOST_IN_TEMPLATE = 400
+# The most words of each template.
+TEMPLATES = {"definitions.md": 700, "mutants.md": 400, "proved.md": 400, "tested.md": 2_000}
 DATE = re.compile(r"CI|never|\d{4}-\d\d-\d\d")
-
-
-def stored(name):
-    """Returns the rows of a table of tools/pages/, without its head."""
-    lines = repository.text_of("tools/pages", name).splitlines()[1:]
-    return [line.split("\t") for line in lines]
-
-
-def table(head, rows):
-    """Returns a table of a page."""
-    lines = [f"| {' | '.join(head)} |", "|---" * len(head) + "|"]
-    return "\n".join(lines + [f"| {' | '.join(row)} |" for row in rows])
-
-
-def filled(name, parts):
-    """Returns a template of tools/pages/ with each of its lines '@NAME@' replaced."""
-    text = repository.text_of("tools/pages", name)
-    for mark, part in parts.items():
-        text = text.replace(f"@{mark}@\n", part + "\n")
-    return text
 
 
 # MUTANTS.
@@ -75,16 +60,6 @@ def without(some):
     return wrapped(f"Crates without edits: {named}.")
 
 
-def wrapped(text):
-    """Returns a paragraph as lines of at most 100 columns."""
-    lines = [""]
-    for word in text.split():
-        if len(lines[-1]) + len(word) + 1 > 100:
-            lines.append("")
-        lines[-1] = f"{lines[-1]} {word}".strip()
-    return "\n".join(lines)
-
-
 def tested():
     head = ("What it does wrong", "Crate", "Test", "Line that fails", "Note", "Tried")
     return table(head, [(claim, f"`{crate}`", f"`{test}`", f"`{line}`" if line else "", note, tried)
@@ -104,17 +79,6 @@ def mutants_page():
 
 
 # PROVED.
-
-def layers():
-    """Returns the layers of crates.txt as number, title and crates; that of tests is left out."""
-    found = []
-    for line in repository.text_of("crates.txt").splitlines():
-        if head := re.match(r"# (\d+)\. (.*)", line):
-            found.append((head[1], head[2], []))
-        elif crate := re.match(r"(\w+)\b.*:", line):
-            found[-1][2].append(crate[1])
-    return [it for it in found if it[1] != "Tests"]
-
 
 def sources():
     """Returns the code of each crate without comments."""
@@ -182,7 +146,8 @@ def proved_page():
 def texts():
     """Returns the text of each generated file, by path."""
     return {mutants.TABLE: mutants.text_of(mutants.mutants()), "docs/proof/MUTANTS.md": mutants_page(),
-            "docs/proof/PROVED.md": proved_page()}
+            "docs/proof/PROVED.md": proved_page(), "docs/proof/DEFINITIONS.md": defined.page(),
+            "docs/proof/TESTED.md": filled("tested.md", {"results": results.results()})}
 
 
 def write():
@@ -235,15 +200,21 @@ def claims_of_mutants(checks):
         checks.that(max(words(claim), words(note)) <= MOST_IN_CELL, f"{name}: more than 25 words")
         lines = repository.text_of("crates", test, "stdout") if test.startswith("craq_") else line
         checks.that(line in lines, f"{name}: {test} has no line {line!r}")
-    count = words(re.sub(r"@\w+@", "", repository.text_of("tools/pages/mutants.md")))
-    checks.that(count <= MOST_IN_TEMPLATE, f"tools/pages/mutants.md has {count} words, "
-                f"and is to have at most {MOST_IN_TEMPLATE}")
+
+
+def templates(checks):
+    """Compares the words of each template with their limit."""
+    for name, most in TEMPLATES.items():
+        count = words(re.sub(r"@\w+@", "", repository.text_of("tools/pages", name)))
+        checks.that(count <= most, f"tools/pages/{name} has {count} words, and is to have at most {most}")
 
 
 def generated(checks):
     """Compares the generated files with what would be written."""
     claims_of_mutants(checks)
     claims_of_crates(checks)
+    defined.check(checks)
+    templates(checks)
     for path, text in texts().items():
         checks.that(repository.text_of(path) == text, f"{path} is not what tools/pages/generate writes")
 

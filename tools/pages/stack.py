@@ -3,9 +3,9 @@
 The data has boxes by name, rows that list them from left to right, arrows, and a legend. A row of
 boxes begins at its `left`. A row with a `boundary` is a line with words above and below it.
 """
-from tools.pages.canvas import LINE, WIDTH, Canvas, Rect, lines_of, pieces_of
+from tools.pages.canvas import EDGE, LINE, WIDTH, Canvas, Rect, lines_of, pieces_of
 
-PAD, GAP, BETWEEN, EDGE = 10, 18, 26, 4
+PAD, GAP, BETWEEN = 10, 18, 26
 
 
 def lines_in(box, room):

@@ -1,8 +1,8 @@
 """Shows that parts of `./test --quick` fail if something is wrong: a file in another layout, a byte
-of a worked script's output, a server that answers nothing, a phrase that is refused, and a public
-call that is missing. Each part checks a copy of what it needs, once unchanged and once with the
-fault. Stubs stand for the programs: one prints what the worked scripts of this checkout say, and
-one answers with its status or not at all.
+of a worked script's output, a server that answers nothing, a phrase that is refused, a public call
+that is missing, a page above its limits, and a promise in other words. Each part checks a copy of
+what it needs, once unchanged and once with the fault. Stubs stand for the programs: one prints what
+the worked scripts of this checkout say, and one answers with its status or not at all.
 
     tools/python tools.quick.faults
 
@@ -178,9 +178,48 @@ def missing_call(checks, room):
         before = after
 
 
+def long_page(checks, room):
+    """A page with too many words, a long line or a wide cell, one without a limit, and a number that no
+    file of results has."""
+    copy = Copy(room)
+    page, results = copy.path("clients/README.md"), copy.path("benchmarks/one/RESULTS.md")
+    with open(page, encoding="utf-8") as it:
+        text = it.read()
+
+    def failed(module, more, at=page, before=text):
+        os.makedirs(os.path.dirname(at), exist_ok=True)
+        with open(at, "w", encoding="utf-8") as it:
+            it.write(before + more)
+        found = copy.part(f"tools.pages.{module}", module)[1]
+        with open(page, "w", encoding="utf-8") as it:
+            it.write(text)
+        return found
+
+    checks.same("faults of pages as they are", failed("sizes", ""), 0)
+    for what, more in (("700 words", "\nword" * 700), ("a line", "\n" + "long " * 25),
+                       ("a cell", "\n| " + "wide " * 26 + "|")):
+        checks.same(f"faults of a page with {what} more", failed("sizes", more), 1)
+    checks.same("faults of a page without a limit", failed("sizes", "word\n", copy.path("notes.md"), ""), 1)
+    before = failed("measures", "2026-11-27: commit abc, 4 processors\n\n7.25 µs\n", results, "")
+    for more, faults in ("A put takes 7.25 µs.", 0), ("A put takes 7.31 µs.", 1), ("At 1.9 of redis.", 1), (
+            "It takes at most 7.31 µs.", 0):
+        checks.same(f"faults of a page that says: {more}", failed("measures", "\n" + more) - before, faults)
+
+
+def other_promise(checks, room):
+    """A promise in other words than those of the specification."""
+    copy = Copy(room)
+    for page in "README.md", "docs/proof/PROMISE.md":
+        os.makedirs(os.path.dirname(copy.path(page)), exist_ok=True)
+        shutil.copy(repository.path(page), copy.path(page))
+    checks.same("faults of the promise as it is", copy.part("tools.pages.check", "promised")[1], 0)
+    copy.changed("README.md", b"a beginning of that list", b"a part of that list")
+    checks.same("faults of a promise in other words", copy.part("tools.pages.check", "promised")[1], 1)
+
+
 def main():
     checks = Checks("faults")
-    for part in layout, worked_byte, silent, refused_phrase, missing_call:
+    for part in layout, worked_byte, silent, refused_phrase, missing_call, long_page, other_promise:
         with tempfile.TemporaryDirectory(prefix="faults-") as room:
             checks.part(part.__doc__, part, os.path.realpath(room))
     print(f"faults: {checks.passed} passed, {checks.failed} failed")

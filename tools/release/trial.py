@@ -118,6 +118,31 @@ def served(checks, it, ending):
     checks.same("what craqd-in-order leaves", os.listdir(it.environment["TMPDIR"]), [])
 
 
+def lines(checks, it):
+    """Lines that are written to the named pipe of craqd-in-order reach craqd, and the pipe goes at the end."""
+    pipe = os.path.join(it.home, "lines")
+    words = [it.path("bin/craqd-in-order"), "--control", it.path("etc/jilsdau/plan.toml"), "127.0.0.1:0"]
+    server = subprocess.Popen(words, cwd=it.home, env={**it.environment, "CRAQD_LINES": pipe},
+                              stdin=subprocess.DEVNULL, stdout=subprocess.PIPE, stderr=subprocess.PIPE,
+                              text=True, start_new_session=True)
+    try:
+        checks.that(server.stdout.readline().startswith("listening "), "craqd-in-order with a named pipe listens")
+        server.stderr.readline()
+        told = []
+        for line in "stop a/3", "remove a/3", "join a/4":
+            it.ran("sh", "-c", 'echo "$1" >"$2"', "sh", line, pipe)
+            told.append(server.stderr.readline())
+        checks.same("lines of the named pipe", told, ["a/3 stopped\n", "a/3 removed\n", "a/4 joined\n"])
+        server.send_signal(signal.SIGTERM)
+        out, err = server.communicate(timeout=PATIENCE)
+        checks.same("the end of a server with a named pipe", (server.returncode, out, err), (0, "", ""))
+    finally:
+        if server.poll() is None:
+            os.killpg(server.pid, signal.SIGKILL)
+            server.wait()
+    checks.that(not os.path.exists(pipe), "the named pipe goes at the end")
+
+
 def faults(checks, it):
     """The status of craqd comes through craqd-in-order."""
     status, told = it.ran(it.path("bin/craqd-in-order"), "nowhere.toml", "127.0.0.1:0")
@@ -184,6 +209,7 @@ def main():
             checks.part("files", files, it)
             for ending in signal.SIGTERM, signal.SIGINT:
                 checks.part(f"a server that {ending.name} ends", served, it, ending)
+            checks.part("lines", lines, it)
             checks.part("faults", faults, it)
             checks.part("pages", pages, it)
             checks.part("the unit", unit, it)

@@ -32,6 +32,9 @@ COPIED = {
     **{f"docs/use/{it}.md": f"share/doc/jilsdau/{it}.md" for it in PAGES},
 }
 PYTHON = "clients/python"
+# What craq does only on a command line, and what its prompt has besides verbs and commands.
+TOOLS = ("shell", "watch", "bench")
+PROMPT = ("node", "pass", "history", "help", "quit", "strong", "eventual")
 LICENCE = re.compile(r"LICEN[CS]E|COPYING|NOTICE")
 
 
@@ -98,6 +101,9 @@ def texts(folder, title):
                  if word != "help"] if has_helps else []
         put(folder, f"share/man/man1/{name}.1", helps.man(it, title, below))
         put(folder, f"share/bash-completion/completions/{name}", helps.completion(it, below))
+        if name == "craq":
+            words = [word for word in it.words() if word not in TOOLS]
+            put(folder, "share/jilsdau/craq.words", "\n".join(sorted({*words, *PROMPT})) + "\n")
 
 
 def fill(folder, proof, programs, version):

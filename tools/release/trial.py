@@ -4,11 +4,13 @@
     tools/release/try CRAQD CRAQ CRAQ_LAB     packs these programs, as unproved ones, and tries that archive
 
 It checks the checksums, serves the plan, asks with the clients, ends the server by a signal, renders the man
-pages and completes words. man, cc and systemd-analyze are used if they are there. The last line is
+pages and completes words. man, cc, rlwrap and systemd-analyze are used if they are there. The last line is
 'release: N passed, M failed', and the status is 1 if a check failed.
 """
 import os
+import pty
 import re
+import select
 import shutil
 import signal
 import subprocess
@@ -25,6 +27,7 @@ NEEDED = (
           "lib/systemd/system/craqd.service", "Containerfile",
     "LICENSE", "README.md", "SHA256SUMS", "clients/python/jilsdau/client.py", "clients/c/jilsdau.h",
           "share/doc/jilsdau/SERVER.md",
+    "share/jilsdau/craq.words",
     *(f"share/man/man1/{it}.1" for it in ("craqd", "craq", "craq_lab", "jilsdau")),
     *(f"share/bash-completion/completions/{it}" for it in ("craqd", "craq", "craq_lab", "jilsdau")))
 # Completions: the program, the word that is typed, and the one that has to come.
@@ -75,6 +78,30 @@ def files(checks, it):
     checks.that({"clap", "mio", "toml"} <= set(licensed), f"licences of the libraries: {licensed}")
 
 
+def prompt(checks, it, port):
+    """Types at the prompt of craq by rlwrap, with a Tab; returns how many requests were answered."""
+    if not shutil.which("rlwrap"):
+        return 0
+    words = ["rlwrap", "-f", it.path("share/jilsdau/craq.words"), it.path("bin/craq"), "--connect",
+             f"127.0.0.1:{port}", "--node", "1", "shell"]
+    child, terminal = pty.fork()
+    if child == 0:
+        os.execvpe("rlwrap", words, {**it.environment, "TERM": "dumb"})
+    os.write(terminal, b"se\t size large\nquit\n")
+    told = b""
+    while select.select([terminal], [], [], PATIENCE)[0]:
+        try:
+            told += os.read(terminal, 4096)
+        except OSError:  # the prompt has ended
+            break
+    else:
+        os.kill(child, signal.SIGKILL)
+    os.close(terminal)
+    os.waitpid(child, 0)
+    checks.that(b"written 1" in told, f"the prompt of craq by rlwrap: {told!r}")
+    return 1
+
+
 def client(checks, it, port):
     """Asks with each client; returns how many requests of chain 0 were answered."""
     python = ["python3", it.path("clients/python/jilsdau"), "--connect", f"127.0.0.1:{port}"]
@@ -83,15 +110,16 @@ def client(checks, it, port):
     craq = [it.path("bin/craq"), "--connect", f"127.0.0.1:{port}", "--node", "1"]
     status, told = it.ran(*craq, "read", "strong", "colour")
     checks.that(status == 0 and told.startswith("read 1 0x626c7565\n"), f"craq: {status} {told}")
+    asked = 3 + prompt(checks, it, port)
     if not shutil.which("cc"):
-        return 3
+        return asked
     made = os.path.join(it.home, "example")
     checks.same("cc", it.ran("cc", "-std=c99", "-Wall", "-Wextra", "-pedantic", "-o", made,
                              it.path("clients/c/example.c")), (0, ""))
     status, told = it.ran(made, "127.0.0.1", str(port))
     checks.that(status == 0 and told.endswith("update 1 3\nread 3 red\n"),
                 f"the example in C: {status} {told}")
-    return 7
+    return asked + 4
 
 
 def served(checks, it, ending):

@@ -8,6 +8,7 @@ The last line is 'top: N passed, M failed', and the status 1 where one failed. `
 """
 import itertools
 import os
+import re
 import shutil
 import signal
 import stat
@@ -148,6 +149,12 @@ def told(clone, connect="--connect 127.0.0.1:7123 "):
             *(python + it for it in ("set colour blue", "get colour", "health"))]
 
 
+def valued_options():
+    """Returns the options of craqd that take a value, of docs/use/SERVER.md."""
+    with open(repository.path("docs/use/SERVER.md"), encoding="utf-8") as it:
+        return re.findall(r"\[(--[a-z-]+) [A-Z]+\]", it.read())
+
+
 def serve_unproved(checks, clone):
     """./serve on a fresh clone builds the server without proofs, says so, keeps it until the sources
     change, and ends it in order."""
@@ -219,6 +226,9 @@ def serve_proved(checks, clone):
     _, out, _ = clone.ran("serve", "--threads", "0", plan, "127.0.0.1:0")
     checks.same("threads that are given", out.splitlines()[-1],
                 f"5: --until-input-ends --threads 0 {plan} 127.0.0.1:0")
+    for option in valued_options():
+        _, out, _ = clone.ran("serve", option, "7", plan)
+        checks.that(f" {option} 7 " in out.splitlines()[-1], f"./serve {option} 7 PLAN: {out}")
     clone.built("craqd", 'echo "listening 7000"\n')
     _, out, _ = clone.ran("serve")
     checks.same("commands at the default address", out.splitlines()[1:], told(clone, ""))

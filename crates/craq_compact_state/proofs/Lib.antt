@@ -2,6 +2,7 @@ pub mod Placing
 pub mod Clean
 pub mod Lists
 pub mod Applied
+pub mod Bytes
 pub mod Results
 pub mod Counts
 pub mod Written

@@ -1,4 +1,5 @@
 pub mod Applied
+pub mod Bytes
 pub mod Followed
 pub mod Placed
 pub mod Indexed

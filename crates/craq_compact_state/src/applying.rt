@@ -9,13 +9,14 @@ ghost use Rattle.craq_log.specs.Suffixed.{length_of};
 ghost use Rattle.craq_model.specs.Past.{values_in, values_after};
 ghost use Rattle.craq_replies.specs.Replies.{room_at, KeepsOthersRoom, KeepsRoom};
 ghost use Rattle.craq_compact_state.specs.Applied.{AreApplied};
+ghost use Rattle.craq_compact_state.specs.Bytes.{bytes_of_entries, bytes_of_writes, Counts};
 ghost use Rattle.craq_compact_state.specs.Followed.{AreNext, CanApply};
 ghost use Rattle.craq_compact_state.specs.Indexed.{AreIndexed};
 ghost use Rattle.craq_compact_state.specs.Placed.{objects_of, state_at, versions_of, IsPlaced, LaterWithout};
 ghost use Rattle.craq_compact_state.specs.Room.{AreAppliable, HasRoomForReplies, IsAppliable};
 
+use crate::counted::CountedTable;
 use crate::indexing::list_next;
-use crate::objects::settle_object;
 use crate::value_locations::ValueLocation;
 use craq_commands::{Entry, Write};
 use craq_log::Suffix;
@@ -26,12 +27,13 @@ use std::alloc::{AllocError, Global};
 
 /// Settles these writes, whose versions are their objects' next, in order. Moves their values and
 /// allocates nothing.
-fn settle_objects(table: &mut ObjectTable<ValueLocation>, writes: Items<Write>)
-    requires placed { IsPlaced table.old }
-    requires ready { (q : List ℕ) → CanApply (values_in writes q) (versions_of table.old q) }
-    ensures objects { objects_of table.new ≡ with_writes (objects_of table.old) writes }
-    ensures later { LaterWithout writes table.old table.new }
-    ensures placed { IsPlaced table.new }
+fn settle_objects(counted: &mut CountedTable, writes: Items<Write>)
+    requires placed { IsPlaced counted.old.table }
+    requires ready { (q : List ℕ) → CanApply (values_in writes q) (versions_of counted.old.table q) }
+    ensures objects { objects_of counted.new.table ≡ with_writes (objects_of counted.old.table) writes }
+    ensures later { LaterWithout writes counted.old.table counted.new.table }
+    ensures placed { IsPlaced counted.new.table }
+    ensures counted { (more : ℕ) → Counts counted.old.bytes (objects_of counted.old.table) (bytes_of_writes writes + more) → Counts counted.new.bytes (objects_of counted.new.table) more }
 {
     for write in writes.into_vec() {
         let Write {
@@ -39,20 +41,21 @@ fn settle_objects(table: &mut ObjectTable<ValueLocation>, writes: Items<Write>)
             version,
             value,
         } = write;
-        settle_object(table, &key, version, value);
+        counted.settle(&key, version, value);
     }
 }
 
 /// Applies an entry for which there is room for the versions and the reply. Moves its values and
 /// allocates nothing.
-fn apply_one(table: &mut ObjectTable<ValueLocation>, replies: &mut ReplyTable, entry: Entry)
-    requires placed { IsPlaced table.old }
-    requires ready { (q : List ℕ) → CanApply (values_in entry.writes q) (versions_of table.old q) }
+fn apply_one(counted: &mut CountedTable, replies: &mut ReplyTable, entry: Entry)
+    requires placed { IsPlaced counted.old.table }
+    requires ready { (q : List ℕ) → CanApply (values_in entry.writes q) (versions_of counted.old.table q) }
     requires room { 0 < room_at replies.old entry.client }
-    ensures state { state_at (objects_of table.new) replies.new.kept ≡ after_entry (state_at (objects_of table.old) replies.old.kept) entry }
-    ensures later { LaterWithout entry.writes table.old table.new }
-    ensures placed { IsPlaced table.new }
+    ensures state { state_at (objects_of counted.new.table) replies.new.kept ≡ after_entry (state_at (objects_of counted.old.table) replies.old.kept) entry }
+    ensures later { LaterWithout entry.writes counted.old.table counted.new.table }
+    ensures placed { IsPlaced counted.new.table }
     ensures rooms { KeepsOthersRoom replies.old replies.new entry.client }
+    ensures counted { (more : ℕ) → Counts counted.old.bytes (objects_of counted.old.table) (bytes_of_writes entry.writes + more) → Counts counted.new.bytes (objects_of counted.new.table) more }
 {
     let Entry {
         client,
@@ -61,7 +64,7 @@ fn apply_one(table: &mut ObjectTable<ValueLocation>, replies: &mut ReplyTable, e
         writes,
         ..
     } = entry;
-    settle_objects(table, writes);
+    settle_objects(counted, writes);
     replies.keep(client, number, reply).unwrap();
 }
 
@@ -136,28 +139,30 @@ fn later(position: Seq, other: Seq) -> Seq
 /// are unchanged on error.
 fn apply_first(
     alloc: Global,
-    table: &mut ObjectTable<ValueLocation>,
+    counted: &mut CountedTable,
     replies: &mut ReplyTable,
     entries: &mut Suffix,
     indexed: &mut Seq,
 ) -> Result<(), AllocError>
-    requires placed { IsPlaced table.old }
+    requires placed { IsPlaced counted.old.table }
     requires some { 1 ≤ length entries.old.entries }
-    requires indexed { AreIndexed table.old entries.old indexed.old }
-    requires next { (q : List ℕ) → AreNext (version_of (objects_of table.old) q) (values_after entries.old.entries q) }
+    requires indexed { AreIndexed counted.old.table entries.old indexed.old }
+    requires next { (q : List ℕ) → AreNext (version_of (objects_of counted.old.table) q) (values_after entries.old.entries q) }
+    requires counted { Counts counted.old.bytes (objects_of counted.old.table) (bytes_of_entries entries.old.entries) }
     ensures ok { OnOk result (entries.new.base ≡ entries.old.base + 1) }
     ensures err { OnErr result (entries.new.base ≡ entries.old.base) }
-    ensures applied { AreApplied (state_at (objects_of table.old) replies.old.kept) entries.old (state_at (objects_of table.new) replies.new.kept) entries.new }
-    ensures indexed { AreIndexed table.new entries.new indexed.new }
-    ensures next { (q : List ℕ) → AreNext (version_of (objects_of table.new) q) (values_after entries.new.entries q) }
+    ensures applied { AreApplied (state_at (objects_of counted.old.table) replies.old.kept) entries.old (state_at (objects_of counted.new.table) replies.new.kept) entries.new }
+    ensures indexed { AreIndexed counted.new.table entries.new indexed.new }
+    ensures next { (q : List ℕ) → AreNext (version_of (objects_of counted.new.table) q) (values_after entries.new.entries q) }
     ensures more { indexed.old ≤ indexed.new }
-    ensures placed { IsPlaced table.new }
+    ensures placed { IsPlaced counted.new.table }
+    ensures counted { Counts counted.new.bytes (objects_of counted.new.table) (bytes_of_entries entries.new.entries) }
     ensures rooms { OnOk result ((e : Entry) → take 1 entries.old.entries ≡ e ∷ [] → KeepsOthersRoom replies.old replies.new e.client) }
     ensures succeeds { (e : Entry) → take 1 entries.old.entries ≡ e ∷ [] → 0 < room_at replies.old e.client → IsAppliable entries.old.base indexed.old e → IsOk result }
 {
-    make_room(table, replies, entries, indexed)?;
+    make_room(&mut counted.table, replies, entries, indexed)?;
     if let Some(entry) = entries.take_first(alloc) {
-        apply_one(table, replies, entry);
+        apply_one(counted, replies, entry);
         *indexed = later(*indexed, entries.base());
     }
     Ok(())
@@ -169,29 +174,31 @@ fn apply_first(
 /// only objects that have versions.
 pub fn apply(
     alloc: Global,
-    table: &mut ObjectTable<ValueLocation>,
+    counted: &mut CountedTable,
     replies: &mut ReplyTable,
     entries: &mut Suffix,
     indexed: &mut Seq,
     position: Seq,
 ) -> Result<(), AllocError>
-    requires placed { IsPlaced table.old }
+    requires placed { IsPlaced counted.old.table }
     requires from { entries.old.base ≤ position }
     requires to { position ≤ length_of entries.old }
-    requires indexed { AreIndexed table.old entries.old indexed.old }
-    requires next { (q : List ℕ) → AreNext (version_of (objects_of table.old) q) (values_after entries.old.entries q) }
+    requires indexed { AreIndexed counted.old.table entries.old indexed.old }
+    requires next { (q : List ℕ) → AreNext (version_of (objects_of counted.old.table) q) (values_after entries.old.entries q) }
+    requires counted { Counts counted.old.bytes (objects_of counted.old.table) (bytes_of_entries entries.old.entries) }
     ensures ok { OnOk result (entries.new.base ≡ position) }
     ensures err { OnErr result (entries.new.base < position) }
     ensures from { entries.old.base ≤ entries.new.base }
     ensures to { entries.new.base ≤ position }
-    ensures applied { AreApplied (state_at (objects_of table.old) replies.old.kept) entries.old (state_at (objects_of table.new) replies.new.kept) entries.new }
-    ensures indexed { AreIndexed table.new entries.new indexed.new }
-    ensures next { (q : List ℕ) → AreNext (version_of (objects_of table.new) q) (values_after entries.new.entries q) }
-    ensures placed { IsPlaced table.new }
+    ensures applied { AreApplied (state_at (objects_of counted.old.table) replies.old.kept) entries.old (state_at (objects_of counted.new.table) replies.new.kept) entries.new }
+    ensures indexed { AreIndexed counted.new.table entries.new indexed.new }
+    ensures next { (q : List ℕ) → AreNext (version_of (objects_of counted.new.table) q) (values_after entries.new.entries q) }
+    ensures placed { IsPlaced counted.new.table }
+    ensures counted { Counts counted.new.bytes (objects_of counted.new.table) (bytes_of_entries entries.new.entries) }
     ensures succeeds { HasRoomForReplies replies.old (take (position - entries.old.base) entries.old.entries) → AreAppliable entries.old.base indexed.old (take (position - entries.old.base) entries.old.entries) → IsOk result }
 {
     while entries.base().get() < position.get() {
-        apply_first(alloc, table, replies, entries, indexed)?;
+        apply_first(alloc, counted, replies, entries, indexed)?;
     }
     Ok(())
 }

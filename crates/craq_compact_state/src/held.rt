@@ -1,6 +1,6 @@
 //! `HeldPast`: the storage behind the compacting history. `craq_compact_history` calls it, and otherwise only
 //! tests do.
-ghost use Rattle.std.specs.Prelude.{◌≡◌, ◌+◌, ◌-◌, ◌<◌, ◌≤◌, ◌^◌, ◌++◌, T, ℕ, List, [], IfOk, OnOk, OnErr, drop, length, max, nat_le, take, if◌then◌else◌};
+ghost use Rattle.std.specs.Prelude.{◌≡◌, ◌+◌, ◌-◌, ◌%◌, ◌<◌, ◌≤◌, ◌^◌, ◌++◌, T, ℕ, List, [], IfOk, OnOk, OnErr, drop, length, max, nat_le, take, if◌then◌else◌};
 ghost use Rattle.std.specs.List.{AllByRecursion};
 ghost use Rattle.std.specs.Ordering.{nat_cmp};
 ghost use Rattle.std.specs.FinMap.Entries.{is_sorted};
@@ -10,20 +10,20 @@ ghost use Rattle.craq_commands.specs.Objects.{object_of};
 ghost use Rattle.craq_commands.specs.SingleCopy.{after_entries, opening_state, window_of};
 ghost use Rattle.craq_model.specs.Past.{newest_within, values_after};
 ghost use Rattle.craq_node_invariant.specs.Sound.{AreInRow};
+ghost use Rattle.craq_compact_state.specs.Bytes.{bytes_of_entries, bytes_of_objects};
 ghost use Rattle.craq_compact_state.specs.Followed.{AreNextVersions};
 ghost use Rattle.craq_compact_state.specs.Held.{length_of};
 ghost use Rattle.craq_compact_state.specs.Room.{HasRoomForVersions};
 
 use crate::applying::apply;
+use crate::counted::{CountedTable, bytes_of_entries};
 use crate::indexing::{FEW_ENTRIES, MOST_UNINDEXED, list_entries};
 use crate::lookups::{Lookup, seen_in, within_in};
-use crate::objects::{object_in, objects_copied, objects_placed};
-use crate::value_locations::ValueLocation;
+use crate::objects::{object_in, objects_copied};
 use craq_commands::{Entry, Kept, State, Window};
 use craq_log::Suffix;
 use craq_names::{ClientId, Items, Key, Seq, Version, copies_of};
 use craq_replies::ReplyTable;
-use craq_versions::ObjectTable;
 use std::alloc::{AllocError, Global};
 use std::marker::Model;
 
@@ -33,7 +33,7 @@ use std::marker::Model;
 /// scanned.
 #[derive(Drop)]
 pub struct HeldPast {
-    table: ObjectTable<ValueLocation>,
+    counted: CountedTable,
     replies: ReplyTable,
     entries: Suffix,
     indexed: Seq,
@@ -41,6 +41,7 @@ pub struct HeldPast {
 }
 
 impl Model for HeldPast {
+    ghost use Rattle.craq_compact_state.specs.Bytes.{bytes_of_entries, Counts};
     ghost use Rattle.craq_compact_state.specs.Followed.{AreNextVersions};
     ghost use Rattle.craq_compact_state.specs.Held.{Held};
     ghost use Rattle.craq_compact_state.specs.Indexed.{AreIndexed};
@@ -48,9 +49,9 @@ impl Model for HeldPast {
 
     ghost Value = { Held };
 
-    ghost view = { λ h. record { base = h.entries.base; state = state_at (objects_of h.table) h.replies.kept; entries = h.entries.entries; indexed = h.indexed; rooms = h.table.rooms } };
+    ghost view = { λ h. record { base = h.entries.base; state = state_at (objects_of h.counted.table) h.replies.kept; entries = h.entries.entries; indexed = h.indexed; rooms = h.counted.table.rooms } };
 
-    ghost invariant = { λ h. IsPlaced h.table × AreIndexed h.table h.entries h.indexed × AreNextVersions (state_at (objects_of h.table) h.replies.kept) h.entries.entries };
+    ghost invariant = { λ h. IsPlaced h.counted.table × AreIndexed h.counted.table h.entries h.indexed × AreNextVersions (state_at (objects_of h.counted.table) h.replies.kept) h.entries.entries × Counts h.counted.bytes (objects_of h.counted.table) (bytes_of_entries h.entries.entries) };
 }
 
 /// Moves the kept replies, sorted by client, into a table. Fails only when out of memory.
@@ -74,7 +75,7 @@ impl HeldPast {
         ensures entries { result.entries ≡ [] }
     {
         HeldPast {
-            table: ObjectTable::new(alloc),
+            counted: CountedTable::new(alloc),
             replies: ReplyTable::new(alloc),
             entries: Suffix::new(alloc, Seq::new(0)),
             indexed: Seq::new(0),
@@ -96,7 +97,7 @@ impl HeldPast {
     {
         let State { objects, kept } = state;
         Ok(HeldPast {
-            table: objects_placed(alloc, objects)?,
+            counted: CountedTable::of(alloc, objects)?,
             replies: replies_placed(alloc, kept)?,
             entries: Suffix::new(alloc, base),
             indexed: base,
@@ -118,6 +119,14 @@ impl HeldPast {
         self.entries.len()
     }
 
+    /// Returns the number of bytes of the keys and values that are held, modulo 2^64: those of the
+    /// state's objects, and those that the entries after it write. Takes constant time.
+    pub fn bytes(&self) -> u64
+        ensures { result ≡ (bytes_of_objects self.now.state.objects + bytes_of_entries self.now.entries) % 2 ^ 64 }
+    {
+        self.counted.bytes
+    }
+
     /// Returns the entries after a position, in order. Allocates nothing.
     pub fn from(&self, position: Seq) -> &[Entry]
         requires held { self.now.base ≤ position }
@@ -134,7 +143,7 @@ impl HeldPast {
         ensures object { (result.0, result.1.now) ≡ object_of self.now.state.objects key.now }
         ensures short { length result.1.now ≤ 4096 }
     {
-        object_in(&self.table, key)
+        object_in(&self.counted.table, key)
     }
 
     /// Returns an object's newest version and value: those after all entries. Allocates nothing.
@@ -155,7 +164,7 @@ impl HeldPast {
         ensures short_settled { length result.settled.1.now ≤ 4096 }
         ensures short_newest { length result.newest.1.now ≤ 4096 }
     {
-        seen_in(&self.table, &self.entries, self.indexed, key)
+        seen_in(&self.counted.table, &self.entries, self.indexed, key)
     }
 
     /// Returns an object's newest version, from the settled one on, that is at most `version +
@@ -165,7 +174,7 @@ impl HeldPast {
         ensures short { length result.1.now ≤ 4096 }
     {
         within_in(
-            &self.table,
+            &self.counted.table,
             &self.entries,
             self.indexed,
             key,
@@ -200,8 +209,10 @@ impl HeldPast {
         ensures more { self.old.indexed ≤ self.new.indexed }
         ensures indexed { OnOk result (HasRoomForVersions self.old.rooms (drop (self.old.indexed - self.old.base) self.new.entries) → self.new.indexed ≡ max self.old.indexed (if nat_le (length self.new.entries) FEW_ENTRIES then self.new.base else length_of self.new - MOST_UNINDEXED)) }
     {
+        let more = bytes_of_entries(entries.as_slice());
         self.entries.append_all(entries)?;
-        let _refused = list_entries(&mut self.table, &self.entries, &mut self.indexed);
+        self.counted.bytes = self.counted.bytes.wrapping_add(more);
+        let _refused = list_entries(&mut self.counted.table, &self.entries, &mut self.indexed);
         Ok(())
     }
 
@@ -220,7 +231,7 @@ impl HeldPast {
     {
         apply(
             self.alloc,
-            &mut self.table,
+            &mut self.counted,
             &mut self.replies,
             &mut self.entries,
             &mut self.indexed,
@@ -233,7 +244,7 @@ impl HeldPast {
         ensures { IfOk result (λ s. s ≡ self.now.state) }
     {
         Ok(State {
-            objects: objects_copied(alloc, &self.table)?,
+            objects: objects_copied(alloc, &self.counted.table)?,
             kept: self.replies.copied(alloc)?,
         })
     }

@@ -3,6 +3,7 @@
 #![tactic(auto)]
 
 mod applying;
+mod counted;
 mod held;
 mod indexing;
 mod lookups;

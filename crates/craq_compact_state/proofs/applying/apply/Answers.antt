@@ -12,6 +12,7 @@ loop-alloc-init c = record {
   indexed = c.requires.indexed;
   next = c.requires.next;
   placed = c.requires.placed;
+  counted = c.requires.counted;
   room = λ has all. (has, all);
 }
 
@@ -34,6 +35,7 @@ loop-alloc-preserved c =
       indexed = c.apply_first.ensures.indexed;
       next = c.apply_first.ensures.next;
       placed = c.apply_first.ensures.placed;
+      counted = c.apply_first.ensures.counted;
       room = λ has all.
           let before = c.loop-alloc.invariant.room has all in
           let rest : c.apply_first.new.entries.entries ≡ drop 1 c.loop-alloc.entries.entries = c.apply_first.ensures.applied.entries ∙ ap (λ (k : ℕ). drop k c.loop-alloc.entries.entries) one in

@@ -254,9 +254,10 @@ def serve_control(checks, clone):
     it = clone.started("serve", "--control", alone=True, given=subprocess.PIPE)
     it.stdin.write("stop a/1\nremove a/1\n")
     it.stdin.flush()
-    lines = [it.stdout.readline().rstrip("\n") for _ in range(7)]
+    lines = [it.stdout.readline().rstrip("\n") for _ in range(8)]
     checks.same("what ./serve passes on", sorted(lines),
-                sorted(["listening 7123", "got stop a/1", "got remove a/1", *told(clone)]))
+                sorted(["listening 7123", "got stop a/1", "got remove a/1", *told(clone),
+                        "Type help here for the lines that stop, remove and join nodes."]))
     it.terminate()
     out, _ = it.communicate(timeout=PATIENCE)
     checks.same("./serve --control at its end", (out, it.returncode), ("", 3))

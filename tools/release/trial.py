@@ -7,16 +7,19 @@ It checks the checksums, serves the plan, asks with the clients, ends the server
 pages and completes words. man, cc, rlwrap and systemd-analyze are used if they are there. The last line is
 'release: N passed, M failed', and the status is 1 if a check failed.
 """
+import fcntl
 import os
 import pty
 import re
 import select
 import shutil
 import signal
+import struct
 import subprocess
 import sys
 import tarfile
 import tempfile
+import termios
 
 from tools import repository
 from tools.checks import Checks
@@ -86,6 +89,7 @@ def prompt(checks, it, port):
              f"127.0.0.1:{port}", "--node", "1", "shell"]
     child, terminal = pty.fork()
     if child == 0:
+        fcntl.ioctl(0, termios.TIOCSWINSZ, struct.pack("4H", 24, 80, 0, 0))
         os.execvpe("rlwrap", words, {**it.environment, "TERM": "dumb"})
     os.write(terminal, b"se\t size large\nquit\n")
     told = b""

@@ -2,12 +2,32 @@
 #include "jilsdau.h"
 #include <inttypes.h>
 #include <stdio.h>
+#include <stdlib.h>
+#include <string.h>
 
-enum { HEAD = 1, TAIL = 3 };
+/* The head and the tail of the first chain. */
+static uint32_t head, tail;
+
+/* Takes them from the status: the first and the last of the members that it names first. */
+static void find_members(const struct jilsdau_bytes *text)
+{
+    char copy[4096], *at;
+    size_t size = text->size < sizeof copy ? text->size : sizeof copy - 1;
+    memcpy(copy, text->at, size);
+    copy[size] = 0;
+    at = strstr(copy, "\"members\":[");
+    if (!at)
+        return;
+    at += strlen("\"members\":");
+    do {
+        tail = (uint32_t)strtoul(at + 1, &at, 10);
+        head = head ? head : tail;
+    } while (*at == ',');
+}
 
 static struct jilsdau_request write_of(const char *value)
 {
-    struct jilsdau_request it = {.kind = JILSDAU_UPDATE, .node = HEAD, .tag = JILSDAU_PUT, .key = jilsdau_text("colour")};
+    struct jilsdau_request it = {.kind = JILSDAU_UPDATE, .node = head, .tag = JILSDAU_PUT, .key = jilsdau_text("colour")};
     it.number = jilsdau_now();
     it.value = jilsdau_text(value);
     return it;
@@ -19,9 +39,10 @@ static void print(const struct jilsdau_reply *told)
         printf("refused %" PRIu64 " %" PRIu64 "\n", told->number, told->detail);
     else if (told->kind == JILSDAU_READ_REPLY)
         printf("read %" PRIu64 " %.*s\n", told->reads[0].version, (int)told->reads[0].value.size, (const char *)told->reads[0].value.at);
-    else if (told->kind == JILSDAU_STATUS_REPLY)
+    else if (told->kind == JILSDAU_STATUS_REPLY) {
         printf("status %.*s\n", (int)told->text.size, (const char *)told->text.at);
-    else
+        find_members(&told->text);
+    } else
         printf("update %d %" PRIu64 "\n", told->tag, told->number);
 }
 
@@ -39,11 +60,13 @@ int main(int count, char **words)
 {
     struct jilsdau store;
     struct jilsdau_request status = {.kind = JILSDAU_STATUS}, both[2];
-    struct jilsdau_request read = {.kind = JILSDAU_READ, .node = TAIL, .mode = JILSDAU_STRONG, .key = jilsdau_text("colour")};
-    struct jilsdau_request set = write_of("blue");
+    struct jilsdau_request read = {.kind = JILSDAU_READ, .mode = JILSDAU_STRONG, .key = jilsdau_text("colour")};
+    struct jilsdau_request set;
     int fault = jilsdau_open(&store, count > 2 ? words[1] : "127.0.0.1", count > 2 ? words[2] : "7000", jilsdau_now(), 10);
     if (!fault)
         fault = ask(&store, &status, 1);
+    set = write_of("blue");
+    read.node = tail;
     if (!fault)
         fault = ask(&store, &set, 1);
     if (!fault)

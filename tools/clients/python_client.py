@@ -15,6 +15,7 @@ import time
 
 from jilsdau import (BadReply, Chain, Client, Open, Read, Refused, Stale, Written, client, command, identity,
                      wire)
+from jilsdau.client import TRIES
 from jilsdau.connection import Connection
 from jilsdau.numbers import Numbers
 from jilsdau.wire import Unread, number, value_bytes
@@ -458,7 +459,7 @@ def commands(checks):
 def left_open(checks):
     """An update that may have been done is told with the command that asks it again, and no other is."""
     words = ["append", "k", "a b"]
-    for node, replies in (([], [refused(wire.MEMORY)] * 6), (["--node", "1"], [refused(wire.STOPPED)]),
+    for node, replies in (([], [refused(wire.MEMORY)] * TRIES), (["--node", "1"], [refused(wire.STOPPED)]),
                           (["--node", "1"], [CLOSES])):
         every = [it for one in replies for it in (one, status(1))][:-1]
         with Played(*([] if node else [status(1)]), *every) as server:

@@ -20,6 +20,9 @@ NO_VERSION = 2 ** 64 - 1
 HEALTH_KEY = "health"
 # The wait before a retry grows by this many seconds with each retry.
 PAUSE = 0.05
+# The tries of a request: the last comes 8 to 9 seconds after the first, and where no server answers
+# a second after it.
+TRIES, UNANSWERED = 19, 6
 
 Told = Union[UpdateReply, Read, str]
 ChainName = Union[int, str]
@@ -89,7 +92,7 @@ class Client:
     """
 
     def __init__(self, address: Optional[str] = None, *, client: Optional[int] = None, shown: int = 0,
-                 tries: int = 6, connections: int = 8, patience: float = 10) -> None:
+                 tries: int = TRIES, connections: int = 8, patience: float = 10) -> None:
         if tries < 1 or connections < 1:
             raise ValueError("a client has at least one try and one connection")
         self.pool = Pool(default_address() if address is None else address, connections, patience)
@@ -342,7 +345,8 @@ class Client:
                 return attempt()
             except (OSError, Refused) as fault:
                 lasts = isinstance(fault, Refused) and fault.number not in wire.PASSING
-                if lasts or tried.count >= self.tries:
+                gone = isinstance(fault, NoConnection) and tried.count >= UNANSWERED
+                if lasts or gone or tried.count >= self.tries:
                     raise
                 self.prepare(fault, chain, tried)
 

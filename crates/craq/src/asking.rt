@@ -11,8 +11,12 @@ use std::sync::Wait;
 use std::thread;
 use std::time::{Clock, Duration};
 
-/// The number of the last try of a request, from 0.
-const LAST_TRY: u64 = 5;
+/// The number of the last try of a request, from 0. It comes 8 to 9 seconds after the first, so that
+/// a person who stops a node has the time to remove it.
+const LAST_TRY: u64 = 18;
+
+/// The number of the last try where no server answers, which comes a second after the first.
+const LAST_UNSENT_TRY: u64 = 5;
 
 /// The wait before a retry grows by this many milliseconds with each retry.
 const PAUSE_MILLISECONDS: u64 = 50;
@@ -41,11 +45,12 @@ pub struct Unanswered {
     pub is_open: bool,
 }
 
-/// Returns true if a request that failed so may be retried.
-fn passes(failure: Failure) -> bool {
+/// Returns true if a request that failed so in this turn may be retried.
+fn passes(failure: Failure, turn: u64) -> bool {
     match failure {
         Failure::Memory | Failure::NoReply | Failure::NoClock => false,
-        Failure::Unsent | Failure::Broken => true,
+        Failure::Unsent => turn < LAST_UNSENT_TRY,
+        Failure::Broken => true,
         Failure::Refused(refusal) => matches!(refusal.number(), 9 | 10 | 11 | 12 | 14 | 27),
     }
 }
@@ -158,8 +163,8 @@ where
     }
 }
 
-/// Asks a request until it is answered, 6 times at most, or once if the target names a node.
-/// Returns the reply, and whether an earlier try may have done the update.
+/// Asks a request until it is answered, 19 times at most, 6 times if no server answers, or once if
+/// the target names a node. Returns the reply, and whether an earlier try may have done the update.
 pub fn answered<R>(
     rt: &R,
     link: &mut Link<'_>,
@@ -175,7 +180,7 @@ where
             Ok(reply) => return Ok((reply, is_open)),
             Err(failure) => {
                 is_open = is_open || leaves_open(failure);
-                if target.pinned.is_some() || !passes(failure) {
+                if target.pinned.is_some() || !passes(failure, turn) {
                     return Err(Unanswered { failure, is_open });
                 }
                 target.prepare(rt, failure, turn);
@@ -191,22 +196,22 @@ where
     }
 }
 
-/// Returns true if the chains may come with a later try.
-fn may_come_later(known: &Result<Vec<Chain>, Failure>) -> bool {
+/// Returns true if the chains, which did not come in this turn, may come with a later try.
+fn may_come_later(known: &Result<Vec<Chain>, Failure>, turn: u64) -> bool {
     match known {
         Ok(_) => false,
-        Err(failure) => passes(*failure),
+        Err(failure) => passes(*failure, turn),
     }
 }
 
-/// Asks for the chains until they come, 6 times at most.
+/// Asks for the chains until they come, 19 times at most, or 6 times if no server answers.
 pub fn known_chains<R>(rt: &R, link: &mut Link<'_>) -> Result<Vec<Chain>, Failure>
 where
     R: AllocGlobal + Clock + Wait + Net<Listener = TcpListener, Stream = TcpStream>,
 {
     for turn in 0..LAST_TRY {
         let known = chains(rt, link);
-        if !may_come_later(&known) {
+        if !may_come_later(&known, turn) {
             return known;
         }
         drop(known);

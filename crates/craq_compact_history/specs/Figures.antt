@@ -4,8 +4,9 @@ use Rattle.craq_model.specs.Plain.{Plain, length_of}
 use Rattle.craq_model.specs.Past.{newest_in}
 use Rattle.craq_compact_history.specs.declared.figures.NodeFigures.{NodeFigures}
 
-abbrev pub figures_of : Plain → NodeFigures
-figures_of p = record {
+-- the figures of a node that holds this many bytes
+abbrev pub figures_of : Plain → ℕ → NodeFigures
+figures_of p bytes = record {
   epoch = p.epoch;
   is_ready = p.ready;
   is_running = p.running;
@@ -14,4 +15,5 @@ figures_of p = record {
   waiting_updates = length p.waiting_updates;
   waiting_reads = length p.waiting_reads;
   objects = min (length (newest_in p.past).objects) (2 ^ 64 - 1);
+  bytes = bytes;
 }

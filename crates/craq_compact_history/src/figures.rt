@@ -1,6 +1,7 @@
 //! `NodeFigures`: figures of a node over the compacting past, for people who watch a store.
 ghost use Rattle.std.specs.Prelude.{◌≡◌};
 ghost use Rattle.craq_model.specs.Plain.{Plain};
+ghost use Rattle.craq_compact_history.specs.Counted.{CountsHeld};
 ghost use Rattle.craq_compact_history.specs.Figures.{figures_of};
 
 use crate::ListCore;
@@ -26,6 +27,9 @@ pub struct NodeFigures {
     pub waiting_reads: usize,
     /// The number of objects after all entries of its history, at most 2^64 - 1.
     pub objects: u64,
+    /// The number of bytes of the keys and values that it holds, modulo 2^64: those of the settled
+    /// versions, and those of the writes after them.
+    pub bytes: u64,
 }
 
 /// Returns whether a node is not stopped.
@@ -37,7 +41,8 @@ fn is_running(core: &ListCore) -> bool
 
 /// Returns the figures of a node, in constant time. Allocates nothing.
 pub fn figures_of(core: &ListCore) -> NodeFigures
-    ensures { (p : Plain) → ⟦<ListCore as Core>⟧.represents core.now p → result ≡ figures_of p }
+    ensures figures { (p : Plain) → ⟦<ListCore as Core>⟧.represents core.now p → result ≡ figures_of p result.bytes }
+    ensures bytes { (p : Plain) → ⟦<ListCore as Core>⟧.represents core.now p → CountsHeld p.past result.bytes }
 {
     let node = core.node();
     let updates = node.waiting_updates.as_slice();
@@ -51,5 +56,6 @@ pub fn figures_of(core: &ListCore) -> NodeFigures
         waiting_updates: updates.len(),
         waiting_reads: reads.len(),
         objects: node.history.objects(),
+        bytes: node.history.bytes(),
     }
 }

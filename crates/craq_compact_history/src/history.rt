@@ -1,6 +1,6 @@
 //! `CompactingHistory`: a `History` over a compacted past and an index of clients' entries. `ListCore` is
 //! a node over it.
-ghost use Rattle.std.specs.Prelude.{◌≡◌, ◌+◌, ◌-◌, ◌≤◌, ◌^◌, T, true, length, min, take, drop};
+ghost use Rattle.std.specs.Prelude.{◌≡◌, ◌+◌, ◌-◌, ◌%◌, ◌≤◌, ◌^◌, T, true, length, min, take, drop};
 ghost use Rattle.std.proofs.Props.{props};
 ghost use Rattle.std.specs.FinMap.Entries.{is_sorted};
 ghost use Rattle.arrayvec.specs.ArrayVec.{array_vec_len};
@@ -15,7 +15,7 @@ ghost use Rattle.craq_compaction.proofs.Pasts.{compacted_twice};
 ghost use Rattle.craq_full_history.specs.Slots.{slots_after, slots_from};
 ghost use Rattle.craq_compact_state.specs.Held.{length_of};
 ghost use Rattle.craq_client_index.specs.Indexed.{Tells};
-ghost use Rattle.craq_compact_history.specs.Counted.{AreWritten, first_writes, new_objects};
+ghost use Rattle.craq_compact_history.specs.Counted.{AreWritten, bytes_in, first_writes, new_objects};
 ghost use Rattle.craq_compact_history.specs.Stored.{stored};
 
 use craq_client_index::ClientIndex;
@@ -93,6 +93,14 @@ impl CompactingHistory {
         ensures { result ≡ min (length (newest_in (⟦<CompactingHistory as History>⟧.past self.now)).objects) (2 ^ 64 - 1) }
     {
         self.objects
+    }
+
+    /// Returns the number of bytes of the keys and values in memory, modulo 2^64: those of the
+    /// objects of the state, and those that the entries after it write. Takes constant time.
+    pub fn bytes(&self) -> u64
+        ensures { result ≡ bytes_in (⟦<CompactingHistory as History>⟧.in_memory self.now) % 2 ^ 64 }
+    {
+        self.held.bytes()
     }
 
     /// Returns the number of entries that only the state represents. No entry at or below this

@@ -115,7 +115,7 @@ def pages(checks, craqd):
         wanted = {"craqd_open_connections": 0, 'craqd_requests_total{kind="read"}': 2, "craqd_turned_away_total": 0,
                   'craqd_chain_epoch{chain="a"}': 1, 'craqd_chain_members{chain="a"}': 3, 'craqd_chain_members{chain="b"}': 2,
                   **{f'craqd_node_{name}{{chain="a",node="{node}"}}': value for node in (1, 2, 3)
-                     for name, value in (("ready", 1), ("running", 1), ("entries", 5), ("committed_entries", 5), ("waiting_requests", 0), ("objects", 5))},
+                     for name, value in (("ready", 1), ("running", 1), ("entries", 5), ("committed_entries", 5), ("waiting_requests", 0), ("objects", 5), ("bytes", 25))},
                   'craqd_node_objects{chain="b",node="4"}': 0}
         checks.same("what /metrics counts", {it: found.get(it) for it in wanted}, wanted)
         checks.that(found['craqd_requests_total{kind="update"}'] >= 5, f"/metrics counts updates: {found}")
@@ -125,7 +125,7 @@ def pages(checks, craqd):
         checks.same("/status.json: its chains", [(it["name"], it["epoch"], [node["node"] for node in it["nodes"]]) for it in told["chains"]],
                     [("a", 1, [1, 2, 3]), ("b", 1, [4, 5])])
         checks.same("/status.json: its first node", told["chains"][0]["nodes"][0],
-                    {"committed": 5, "length": 5, "node": 1, "objects": 5, "ready": True, "running": True, "waiting": 0})
+                    {"bytes": 25, "committed": 5, "length": 5, "node": 1, "objects": 5, "ready": True, "running": True, "waiting": 0})
         checks.same("/status.json: its requests", told["requests"], {"reads": 2, "statuses": found['craqd_requests_total{kind="status"}'],
                                                                     "updates": found['craqd_requests_total{kind="update"}']})
         checks.same("/healthz", server.get("/healthz"), ("HTTP/1.1 200 OK", PLAIN, "ok\n"))

@@ -101,15 +101,25 @@ chain_families figures =
     ∷ chain_family figures chains.Members
     ∷ []
 
-abbrev pub node_families : List ChainFigures → List Family
-node_families figures =
+-- whether nodes can answer
+abbrev pub node_state_families : List ChainFigures → List Family
+node_state_families figures =
     node_family figures nodes.Ready
     ∷ node_family figures nodes.Running
-    ∷ node_family figures nodes.Length
+    ∷ []
+
+-- what nodes hold
+abbrev pub node_count_families : List ChainFigures → List Family
+node_count_families figures =
+    node_family figures nodes.Length
     ∷ node_family figures nodes.Committed
     ∷ node_family figures nodes.Waiting
     ∷ node_family figures nodes.Objects
+    ∷ node_family figures nodes.Bytes
     ∷ []
+
+abbrev pub node_families : List ChainFigures → List Family
+node_families figures = node_state_families figures ++ node_count_families figures
 
 -- ---- all
 

@@ -83,6 +83,7 @@ node_name nodes.Length = codes "craqd_node_entries"
 node_name nodes.Committed = codes "craqd_node_committed_entries"
 node_name nodes.Waiting = codes "craqd_node_waiting_requests"
 node_name nodes.Objects = codes "craqd_node_objects"
+node_name nodes.Bytes = codes "craqd_node_bytes"
 
 abbrev pub node_help : NodeMetric → List ℕ
 node_help nodes.Ready = codes "1 if the node holds its chain's history."
@@ -91,6 +92,7 @@ node_help nodes.Length = codes "Entries of the node's history."
 node_help nodes.Committed = codes "Entries that the node knows to be committed."
 node_help nodes.Waiting = codes "Requests that wait at the node."
 node_help nodes.Objects = codes "Objects that the node holds."
+node_help nodes.Bytes = codes "Bytes of the keys and values that the node holds."
 
 -- 1 for true, 0 for false
 abbrev pub bit : Bool → ℕ
@@ -104,3 +106,4 @@ node_value node nodes.Length = node.length
 node_value node nodes.Committed = node.committed
 node_value node nodes.Waiting = node.waiting
 node_value node nodes.Objects = node.objects
+node_value node nodes.Bytes = node.bytes

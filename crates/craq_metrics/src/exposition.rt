@@ -3,7 +3,7 @@ ghost use Rattle.std.specs.Prelude.{◌≡◌, ◌++◌, ◌∷◌, [], OnOk, If
 ghost use Rattle.std.specs.Fmt.{decimal};
 ghost use Rattle.std.specs.List.{flat_map};
 ghost use Rattle.craq_metrics.specs.Exposition.{heading_text, sample_text, family_text, exposition};
-ghost use Rattle.craq_metrics.specs.Families.{server_family, server_families, requests_family, refusals_family, numbered_samples, chain_family, chain_families, chain_sample, node_family, node_families, node_samples, families_of};
+ghost use Rattle.craq_metrics.specs.Families.{server_family, server_families, requests_family, refusals_family, numbered_samples, chain_family, chain_families, chain_sample, node_family, node_families, node_count_families, node_samples, node_state_families, families_of};
 ghost use Rattle.craq_metrics.specs.Metrics.{chain_name, node_name};
 
 use crate::metrics::{ChainMetric, CountMetric, Kind, NodeMetric, ServerMetric};
@@ -203,16 +203,31 @@ fn push_chains(text: &mut String, chains: &[ChainFigures]) -> Result<(), AllocEr
     push_chain(text, chains, ChainMetric::Members)
 }
 
+/// Appends the metrics that say if nodes can answer.
+fn push_node_states(text: &mut String, chains: &[ChainFigures]) -> Result<(), AllocError>
+    ensures { OnOk result (string_bytes text.new ≡ string_bytes text.old ++ exposition (node_state_families chains.now)) }
+{
+    push_nodes(text, chains, NodeMetric::Ready)?;
+    push_nodes(text, chains, NodeMetric::Running)
+}
+
+/// Appends the metrics of what nodes hold.
+fn push_node_counts(text: &mut String, chains: &[ChainFigures]) -> Result<(), AllocError>
+    ensures { OnOk result (string_bytes text.new ≡ string_bytes text.old ++ exposition (node_count_families chains.now)) }
+{
+    push_nodes(text, chains, NodeMetric::Length)?;
+    push_nodes(text, chains, NodeMetric::Committed)?;
+    push_nodes(text, chains, NodeMetric::Waiting)?;
+    push_nodes(text, chains, NodeMetric::Objects)?;
+    push_nodes(text, chains, NodeMetric::Bytes)
+}
+
 /// Appends the metrics of nodes.
 fn push_all_nodes(text: &mut String, chains: &[ChainFigures]) -> Result<(), AllocError>
     ensures { OnOk result (string_bytes text.new ≡ string_bytes text.old ++ exposition (node_families chains.now)) }
 {
-    push_nodes(text, chains, NodeMetric::Ready)?;
-    push_nodes(text, chains, NodeMetric::Running)?;
-    push_nodes(text, chains, NodeMetric::Length)?;
-    push_nodes(text, chains, NodeMetric::Committed)?;
-    push_nodes(text, chains, NodeMetric::Waiting)?;
-    push_nodes(text, chains, NodeMetric::Objects)
+    push_node_states(text, chains)?;
+    push_node_counts(text, chains)
 }
 
 /// Returns the figures of a server and its chains in the text format of Prometheus, version 0.0.4.

@@ -46,6 +46,8 @@ pub struct NodeFigures {
     pub waiting: u64,
     /// The number of objects that it holds.
     pub objects: u64,
+    /// The number of bytes of the keys and values that it holds.
+    pub bytes: u64,
 }
 
 /// Figures of a chain.

@@ -168,6 +168,7 @@ pub(crate) enum NodeMetric {
     Committed,
     Waiting,
     Objects,
+    Bytes,
 }
 
 /// Returns 1 for true and 0 for false.
@@ -189,6 +190,7 @@ impl NodeMetric {
             NodeMetric::Committed => "craqd_node_committed_entries",
             NodeMetric::Waiting => "craqd_node_waiting_requests",
             NodeMetric::Objects => "craqd_node_objects",
+            NodeMetric::Bytes => "craqd_node_bytes",
         }
     }
 
@@ -203,6 +205,7 @@ impl NodeMetric {
             NodeMetric::Committed => "Entries that the node knows to be committed.",
             NodeMetric::Waiting => "Requests that wait at the node.",
             NodeMetric::Objects => "Objects that the node holds.",
+            NodeMetric::Bytes => "Bytes of the keys and values that the node holds.",
         }
     }
 
@@ -217,6 +220,7 @@ impl NodeMetric {
             NodeMetric::Committed => node.committed,
             NodeMetric::Waiting => node.waiting,
             NodeMetric::Objects => node.objects,
+            NodeMetric::Bytes => node.bytes,
         }
     }
 }

@@ -13,8 +13,8 @@ fn node_value(alloc: Global, node: &NodeFigures) -> Result<Value, AllocError>
 {
     let (id, ready, running) = (u64::from(node.node), node.is_ready, node.is_running);
     let (length, committed) = (node.length, node.committed);
-    let (waiting, objects) = (node.waiting, node.objects);
-    json!(in alloc; {"committed": committed, "length": length, "node": id, "objects": objects, "ready": ready, "running": running, "waiting": waiting})
+    let (waiting, objects, bytes) = (node.waiting, node.objects, node.bytes);
+    json!(in alloc; {"bytes": bytes, "committed": committed, "length": length, "node": id, "objects": objects, "ready": ready, "running": running, "waiting": waiting})
 }
 
 /// Returns nodes as JSON objects. Fails only when out of memory.

@@ -31,7 +31,7 @@ pub const fn server_figures(counts: &Counts, uptime: u64) -> ServerFigures
 
 /// Returns the figures of a node.
 const fn node_figures(node: NodeId, core: &CoreFigures) -> NodeFigures
-    ensures { result ≡ record { node = node; is_ready = core.now.is_ready; is_running = core.now.is_running; length = core.now.length; committed = core.now.committed; waiting = min (core.now.waiting_updates + core.now.waiting_reads) (2 ^ 64 - 1); objects = core.now.objects } }
+    ensures { result ≡ record { node = node; is_ready = core.now.is_ready; is_running = core.now.is_running; length = core.now.length; committed = core.now.committed; waiting = min (core.now.waiting_updates + core.now.waiting_reads) (2 ^ 64 - 1); objects = core.now.objects; bytes = core.now.bytes } }
 {
     NodeFigures {
         node: node.get(),
@@ -41,6 +41,7 @@ const fn node_figures(node: NodeId, core: &CoreFigures) -> NodeFigures
         committed: core.committed,
         waiting: (core.waiting_updates as u64).saturating_add(core.waiting_reads as u64),
         objects: core.objects,
+        bytes: core.bytes,
     }
 }
 

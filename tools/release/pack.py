@@ -32,7 +32,7 @@ COPIED = {
     **{f"docs/use/{it}.md": f"share/doc/jilsdau/{it}.md" for it in PAGES},
 }
 PYTHON = "clients/python"
-# What craq does only on a command line, and what its prompt has besides verbs and commands.
+# Words of craq that are no lines of its prompt, and lines of the prompt that are no words of craq.
 TOOLS = ("shell", "watch", "bench")
 PROMPT = ("node", "pass", "history", "help", "quit", "strong", "eventual")
 LICENCE = re.compile(r"LICEN[CS]E|COPYING|NOTICE")

@@ -101,14 +101,14 @@ chain_families figures =
     ∷ chain_family figures chains.Members
     ∷ []
 
--- whether nodes can answer
+-- the states of nodes
 abbrev pub node_state_families : List ChainFigures → List Family
 node_state_families figures =
     node_family figures nodes.Ready
     ∷ node_family figures nodes.Running
     ∷ []
 
--- what nodes hold
+-- the counts of nodes
 abbrev pub node_count_families : List ChainFigures → List Family
 node_count_families figures =
     node_family figures nodes.Length

@@ -112,6 +112,20 @@ impl<E, X: HistoryRule<E>, N: Named> Registrar<E, X, N> {
         Some(Writer::of(seat))
     }
 
+    /// Reserves room for one more right, so that the next call of `node` needs no memory.
+    pub fn make_room(&mut self) -> Result<(), AllocError>
+        ensures { self.new ≡ self.old }
+    {
+        self.used.reserve(1)
+    }
+
+    /// Returns the number of the next client.
+    pub fn next_client(&self) -> u64
+        ensures { result ≡ self.now.next }
+    {
+        self.next
+    }
+
     /// Gives the right to the entries of a new session of a client. None: there is no next number.
     pub fn client(&mut self, history: &History<E, X, N>) -> Option<Writer<E, X, N>>
         ensures { IfSome result (λ w. (w.author ≡ Client self.old.next) × (w.seen ≡ []) × (self.new.next ≡ self.old.next + 1)) }

@@ -12,7 +12,7 @@ use Rattle.craq_store_history.specs.Entries.{author_of, first_some, line_in, lin
 
 -- ---- the lines
 
-lines_append : (c : ℕ) (xs ys : List Entry) → lines_in c (xs ++ ys) ≡ lines_in c xs ++ lines_in c ys
+pub lines_append : (c : ℕ) (xs ys : List Entry) → lines_in c (xs ++ ys) ≡ lines_in c xs ++ lines_in c ys
 unfolding lines_in
 lines_append c [] ys = refl
 lines_append c (x ∷ xs) ys = ap (λ z. line_in c x ++ z) (lines_append c xs ys) ∙ sym (append_assoc (line_in c x) (lines_in c xs) (lines_in c ys))

@@ -108,7 +108,7 @@ pub may_order : (old new : Celled Mastered BookEvent) (w : Written Entry) (repor
 may_order old new w reported event pass step r t says stopped =
     record { master = old.inside; stamp = old.stamp; at = r.at; step = rw says t.takes; later = t.later; stopped = stopped }
 
-line_added : (seen reported new : List Entry) (c stamp : ℕ) (event : BookEvent) (pass : ℕ) (step : Snapshot Step)
+pub line_added : (seen reported new : List Entry) (c stamp : ℕ) (event : BookEvent) (pass : ℕ) (step : Snapshot Step)
     → IsAdded author_of seen reported (AtMaster c stamp event pass step) new → Contains (lines_in c new) (book_line (master_record stamp event pass step))
 line_added seen reported new c stamp event pass step a =
     let e : Entry = AtMaster c stamp event pass step in

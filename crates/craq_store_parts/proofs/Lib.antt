@@ -2,4 +2,5 @@ pub mod Running
 pub mod Recording
 pub mod Sending
 pub mod Beginning
+pub mod Joining
 pub mod Sessions

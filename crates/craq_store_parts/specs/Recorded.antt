@@ -7,14 +7,16 @@ use Rattle.craq_model.specs.declared.ask.Answer.{Answer}
 use Rattle.craq_model.specs.declared.ask.Event.{Event}
 use Rattle.craq_model.specs.declared.step.Out.TheVariants as outs
 use Rattle.craq_model.specs.declared.step.Step.{Step}
-use Rattle.craq_model.specs.Plain.{Plain}
+use Rattle.craq_model.specs.Plain.{Plain, opening_joined}
 use Rattle.craq_epochs.specs.Mastered.{Mastered, opened_master}
 use Rattle.craq_seat.specs.declared.journal.BookEvent.{BookEvent}
+use Rattle.craq_seat.specs.declared.journal.BookEvent.TheVariants as books
 use Rattle.craq_seat.specs.declared.journal.Receipt.{Receipt}
+use Rattle.craq_seat.specs.declared.journal.Record.{Record}
 use Rattle.craq_seat.specs.Books.{book_opening}
 use Rattle.craq_seat.specs.Calls.{Called, Desked}
 use Rattle.craq_seat.specs.Cells.{Celled, opened, receipt_of}
-use Rattle.craq_seat.specs.Merge.{MergedStep}
+use Rattle.craq_seat.specs.Merge.{MergedStep, book_line}
 use Rattle.craq_causality.specs.Authors.{first_of}
 use Rattle.craq_causality.specs.Causal.{HasJoined, HasStopped, IsOfSent}
 use Rattle.craq_ghost_history.specs.declared.author.Author.TheVariants.{Node}
@@ -51,6 +53,21 @@ pub record CanBegin {C : Type 0} (represents : C → Plain → Type 0) (log : Li
   pub member : cell.opening.name.node ≢ 0
   pub joined : HasJoined members (lines_in cell.opening.name.chain log) cell.opening.name.node
   pub first : represents cell.inside (first_of cell.opening.name.chain members cell.opening.name.node)
+  pub unmoved : cell.last ≡ None
+
+-- in this history the master of the chain took a step on this event
+abbrev pub HasOrdered : List Entry → ℕ → BookEvent → Type 0
+HasOrdered log chain event = (r : Record BookEvent) × Contains (lines_in chain log) (book_line r) × (r.event ≡ event)
+
+-- in this history the master of the node's chain let the node join
+abbrev pub HasLetJoin : List Entry → NodeName → Type 0
+HasLetJoin log name = HasOrdered log name.chain (books.Join name.node)
+
+-- the cell of a node of this name that is no first member, and that took no step
+pub record IsUnjoined {C : Type 0} (represents : C → Plain → Type 0) (name : NodeName) (cell : Celled C Event) : Type 0 where
+  pub named : cell.opening.name ≡ name
+  pub member : name.node ≢ 0
+  pub first : represents cell.inside (opening_joined name)
   pub unmoved : cell.last ≡ None
 
 -- the master is the replay of its entries in the history, of which the writer knows all; its last step is among them

@@ -122,6 +122,21 @@ impl<N: Named> AnsweredCall<N> {
         &self.reply.receipt
     }
 
+    /// Returns the receipt of the reply, without the tokens. Never allocates.
+    pub fn into_receipt(self) -> CallReceipt
+        ensures { result ≡ self }
+    {
+        let AnsweredCall { accepted, reply } = self;
+        let StepReceipt {
+            receipt,
+            name: _,
+            token,
+        } = reply;
+        drop(accepted);
+        drop(token);
+        receipt
+    }
+
     /// Returns the receipt, with tokens that have seen the steps in which the node of this name
     /// accepted this call and gave the reply. None: the reply is of another call or node.
     pub fn into_own(

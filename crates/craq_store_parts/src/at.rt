@@ -1,5 +1,7 @@
 //! `At`: a core in a store whose history has a name; the types of a running store name its core
 //! alone.
+ghost use Rattle.std.specs.Prelude.{◌≡◌};
+
 use craq_epochs::Switch;
 use craq_ghost_history::Named;
 use craq_model::{Config, Event, Step};
@@ -13,6 +15,15 @@ use std::marker::PhantomData;
 pub struct At<C: Core, N: Named> {
     core: C,
     of: PhantomData<N>,
+}
+
+impl<C: Core, N: Named> At<C, N> {
+    /// Lends the core. Never allocates.
+    pub fn core(&self) -> &C
+        ensures { result.now ≡ self.now.core }
+    {
+        &self.core
+    }
 }
 
 impl<C: Core, N: Named> Named for At<C, N> {

@@ -6,6 +6,7 @@
 
 mod answered_call;
 mod at;
+mod joined_node;
 mod limits;
 mod made_ask;
 mod messages;
@@ -19,6 +20,7 @@ pub use answered_call::{AcceptedCall, AnsweredCall, StepReceipt};
 pub use at::At;
 use craq_ghost_history::{History, Token, Writer};
 use craq_store_history::{Entry, StoreRule};
+pub use joined_node::{JoinedNode, open_joined};
 pub use made_ask::MadeAsk;
 pub use messages::{Messages, Outgoing, OwedAck};
 pub use recorded_book::RecordedBook;

@@ -1,16 +1,20 @@
 //! `RecordedBook`: the cell of a chain's master whose steps are entries of the store's history; a
 //! running chain has one under its lock.
-ghost use Rattle.std.specs.Prelude.{◌≡◌, [], IfSome};
+ghost use Rattle.std.specs.Prelude.{◌≡◌, [], IfOk, IfSome};
 ghost use Rattle.craq_seat.specs.Books.{IsBook};
+ghost use Rattle.craq_seat.specs.declared.journal.BookEvent.TheVariants as BookEvent;
+ghost use Rattle.craq_seat.specs.Calls.{receipt_in};
 ghost use Rattle.craq_seat.specs.Taken.{TakesTransition};
 ghost use Rattle.craq_causality.specs.Causal.{IsOfStopped};
 ghost use Rattle.craq_ghost_history.specs.declared.author.Author.TheVariants as Author;
 ghost use Rattle.craq_store_history.specs.Entries.{lines_in};
-ghost use Rattle.craq_store_parts.specs.Recorded.{HasStep, IsRecordedBook, IsUnmoved};
+ghost use Rattle.craq_store_history.specs.Steps.{IsMasterAt};
+ghost use Rattle.craq_store_parts.specs.Recorded.{HasOrdered, HasStep, IsRecordedBook, IsUnmoved};
 
+use crate::joined_node::JoinedNode;
 use crate::{StoreHistory, StoreToken, StoreWriter};
 use craq_ghost_history::Named;
-use craq_names::{Pass, Refusal};
+use craq_names::{NodeId, NodeName, Pass, Refusal};
 use craq_seat::{BookCell, BookEvent, Receipt};
 use craq_store_history::Entry;
 use std::alloc::Global;
@@ -55,8 +59,8 @@ impl<N: Named> RecordedBook<N> {
         RecordedBook { cell, writer }
     }
 
-    /// Opens a chain in the history: adds the entry that it has the first members of this cell,
-    /// which took no step yet.
+    /// Opens a chain in the history: adds the entry that it has the first members of this cell, which
+    /// took no step yet.
     pub fn open(history: &StoreHistory<N>, cell: BookCell, writer: StoreWriter<N>) -> Self
         requires opened { IsUnmoved cell }
         requires author { writer.author ≡ Author.Node cell.opening.name.chain 0 }
@@ -81,19 +85,21 @@ impl<N: Named> RecordedBook<N> {
     }
 
     /// Takes one step of the master, exactly as `BookCell::take` does, and adds it to the history,
-    /// after all that the token has seen. On a refusal nothing is changed and nothing added.
-    pub fn take(
+    /// after all that the token has seen. Returns also a token that has seen the step. On a refusal
+    /// nothing is changed and nothing added.
+    fn take_step(
         &mut self,
         alloc: Global,
         history: &StoreHistory<N>,
         event: BookEvent,
         pass: Pass,
         token: StoreToken<N>,
-    ) -> Result<Receipt, Refusal>
+    ) -> Result<(Receipt, StoreToken<N>), Refusal>
         requires { IsOfStopped (lines_in self.old.opening.name.chain token) event }
-        ensures step { TakesTransition self.old self.new event pass result }
+        ensures step { TakesTransition self.old self.new event pass (receipt_in result) }
         ensures kept { IsBook self.new }
         ensures opening { self.new.opening ≡ self.old.opening }
+        ensures ordered { IfOk result (λ r. HasOrdered r.1 self.old.opening.name.chain event) }
     {
         match self.cell.take(alloc, copy_of(&event), pass) {
             Err(refusal) => {
@@ -111,15 +117,65 @@ impl<N: Named> RecordedBook<N> {
                     pass,
                     step: Snapshot::of(step),
                 };
-                drop(self.writer.add_after(history, &entry, token));
-                Ok(receipt)
+                let token = self.writer.add_after(history, &entry, token);
+                Ok((receipt, token))
             }
         }
     }
 
-    /// Returns a token that has seen all steps of the master; the last one is in it.
+    /// Takes one step of the master, exactly as `BookCell::take` does, and adds it to the history,
+    /// after all that the token has seen. On a refusal nothing is changed and nothing added.
+    pub fn take(
+        &mut self,
+        alloc: Global,
+        history: &StoreHistory<N>,
+        event: BookEvent,
+        pass: Pass,
+        token: StoreToken<N>,
+    ) -> Result<Receipt, Refusal>
+        requires { IsOfStopped (lines_in self.old.opening.name.chain token) event }
+        ensures step { TakesTransition self.old self.new event pass result }
+        ensures kept { IsBook self.new }
+        ensures opening { self.new.opening ≡ self.old.opening }
+    {
+        match self.take_step(alloc, history, event, pass, token) {
+            Ok((receipt, seen)) => {
+                drop(seen);
+                Ok(receipt)
+            }
+            Err(refusal) => Err(refusal),
+        }
+    }
+
+    /// Lets a node join, exactly as `BookCell::take` does, and adds the step to the history. Returns
+    /// also the node, with a token of its join. On a refusal nothing is changed and nothing added.
+    pub fn join(
+        &mut self,
+        alloc: Global,
+        history: &StoreHistory<N>,
+        node: NodeId,
+    ) -> Result<(Receipt, JoinedNode<N>), Refusal>
+        ensures step { TakesTransition self.old self.new (BookEvent.Join node) 0 (receipt_in result) }
+        ensures kept { IsBook self.new }
+        ensures opening { self.new.opening ≡ self.old.opening }
+        ensures joined { IfOk result (λ r. r.1 ≡ record { chain = self.old.opening.name.chain; node = node }) }
+    {
+        let chain = self.cell.opening().name.chain;
+        let token = self.writer.token(history);
+        match self.take_step(alloc, history, BookEvent::Join(node), Pass::start(), token) {
+            Ok((receipt, seen)) => {
+                let joined = JoinedNode::new(NodeName { chain, node }, seen);
+                Ok((receipt, joined))
+            }
+            Err(refusal) => Err(refusal),
+        }
+    }
+
+    /// Returns a token that has seen all steps of the master, which is the replay of them; the last
+    /// one is in it.
     pub fn token(&mut self, history: &StoreHistory<N>) -> StoreToken<N>
         ensures same { self.new ≡ self.old }
+        ensures at { IsMasterAt self.old.opening.name.chain result self.old.inside self.old.stamp }
         ensures last { IfSome self.old.last (λ step. HasStep (lines_in self.old.opening.name.chain result) self.old.opening.name.node self.old.stamp step) }
     {
         self.writer.token(history)

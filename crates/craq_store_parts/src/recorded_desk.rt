@@ -1,6 +1,6 @@
 //! `RecordedDesk`: a node's desk whose steps are entries of the store's history; a running node has
 //! one under its lock.
-ghost use Rattle.std.specs.Prelude.{◌≡◌, ℕ, false, [], None, Some, if◌then◌else◌, IfOk, IfSome, IsNone, IsOk, OnErr};
+ghost use Rattle.std.specs.Prelude.{◌≡◌, ℕ, false, [], None, Some, if◌then◌else◌, IfOk, IfSome, IsNone, IsOk, IsSome, OnErr};
 ghost use Rattle.craq_model.specs.declared.ask.Event.{Event};
 ghost use Rattle.craq_model.specs.Plain.{Plain};
 ghost use Rattle.craq_node.specs.Represented.{CanArrive, IsFree};
@@ -135,6 +135,7 @@ impl<C: Core + Named> RecordedDesk<C> {
         ensures calls { IfOk result (λ r. IfSome self.new.cell.last (λ step. CallsOf self.old.waiting self.new.waiting event r.0 cause.pass step r.1.calls)) }
         ensures same { OnErr result (self.new.waiting ≡ self.old.waiting) }
         ensures opening { self.new.cell.opening ≡ self.old.cell.opening }
+        ensures moved { IfOk result (λ r. IsSome self.new.cell.last) }
         ensures accepted { IfOk result (λ r. IfSome self.new.cell.last (λ step. r.1.accepted ≡ accepted_under self.new.cell.opening.name cause.call step.ticket)) }
         ensures taken { IfOk result (λ r. IfSome self.new.cell.last (λ step. HasTaken r.1.token self.new.cell.opening.name self.new.cell.stamp event cause.pass step cause.call)) }
         ensures replied { IfOk result (λ r. IfOk r.1.calls (λ receipts. HaveReplied r.1.token self.new.cell.opening.name receipts.items)) }

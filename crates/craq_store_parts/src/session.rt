@@ -1,7 +1,8 @@
 //! `Session`: a client's session, which adds each call to the history before it is asked.
-ghost use Rattle.std.specs.Prelude.{◌≡◌, ◌+◌, IfSome};
+ghost use Rattle.std.specs.Prelude.{◌≡◌, ◌+◌, [], None, IfSome};
 ghost use mathlib.Core.List.{IsPrefix};
 ghost use Rattle.craq_ghost_history.specs.Authors.{of};
+ghost use Rattle.craq_ghost_history.specs.Histories.{AreComparable};
 ghost use Rattle.craq_store_history.specs.Chains.{IsHistory, WasCalled};
 ghost use Rattle.craq_store_history.specs.Entries.{author_of};
 ghost use Rattle.craq_store_parts.specs.Recorded.{HasAccepted, HasReplied};
@@ -9,11 +10,11 @@ ghost use Rattle.craq_store_parts.specs.Sent.{IsMade, IsSession};
 
 use crate::answered_call::AnsweredCall;
 use crate::{StoreHistory, StoreToken, StoreWriter};
-use craq_ghost_history::Named;
+use craq_ghost_history::{Named, Registrar};
 use craq_model::Ask;
 use craq_names::NodeName;
 use craq_seat::CallReceipt;
-use craq_store_history::{CallId, Entry};
+use craq_store_history::{CallId, Entry, StoreRule};
 use std::marker::Model;
 use std::snapshot::Snapshot;
 
@@ -74,6 +75,18 @@ impl<N: Named> Session<N> {
         }
     }
 
+    /// Opens the session of a new client. None: there is no next number.
+    pub fn open(
+        history: &StoreHistory<N>,
+        registrar: &mut Registrar<Entry, StoreRule, N>,
+    ) -> Option<Self>
+        ensures { IfSome result (λ s. (s.next ≡ 0) × (s.seen ≡ [])) }
+    {
+        let client = registrar.next_client();
+        let writer = registrar.client(history)?;
+        Some(Session::new(client, writer))
+    }
+
     /// Makes a call: adds it to the history, after all that the session has seen. None, with
     /// nothing changed: there is no next number.
     pub fn call(
@@ -88,6 +101,7 @@ impl<N: Named> Session<N> {
         ensures called { IfSome result (λ c. WasCalled c.token c.call name ask.now) }
         ensures next { IfSome result (λ c. self.new.next ≡ self.old.next + 1) }
         ensures client { self.new.client ≡ self.old.client }
+        ensures none { result ≡ None → self.new ≡ self.old }
     {
         if self.next == u64::MAX {
             return None;
@@ -105,6 +119,7 @@ impl<N: Named> Session<N> {
         self.next += 1;
         Some(CallMade { call, token })
     }
+
     /// Sees the steps in which a node accepted a call and replied to it, and returns the receipt of
     /// the reply. None, with nothing changed: the reply is of another call, or of another node.
     pub fn finish(
@@ -128,5 +143,17 @@ impl<N: Named> Session<N> {
                 Some(receipt)
             }
         }
+    }
+
+    /// Shows that two sessions of one store have seen prefixes of one history: one begins with the
+    /// other. Neither changes.
+    pub fn compare(&mut self, history: &StoreHistory<N>, other: &mut Self)
+        ensures comparable { AreComparable self.old.seen other.old.seen }
+        ensures this { self.new ≡ self.old }
+        ensures that { other.new ≡ other.old }
+    {
+        let mut seen = self.writer.token(history);
+        let mut others = other.writer.token(history);
+        seen.compare(history, &mut others);
     }
 }

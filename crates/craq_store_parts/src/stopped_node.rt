@@ -6,6 +6,7 @@ ghost use Rattle.craq_store_history.specs.Entries.{lines_in};
 use crate::StoreToken;
 use craq_epochs::StopReceipt;
 use craq_ghost_history::Named;
+use craq_names::ChainId;
 use craq_seat::Receipt;
 use std::marker::Model;
 
@@ -41,6 +42,13 @@ impl<N: Named> StoppedNode<N> {
             stop,
             token,
         }
+    }
+
+    /// Returns the chain of the node.
+    pub fn chain(&self) -> ChainId
+        ensures { result ≡ self.now.stopped.chain }
+    {
+        self.stopped.name().chain
     }
 
     /// Returns the proof, the receipt, and the token.

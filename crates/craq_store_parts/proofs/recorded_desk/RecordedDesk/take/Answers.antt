@@ -1,4 +1,5 @@
-use Rattle.std.proofs.Common.{◌≡◌, ◌∙◌, ap, sym, subst, Option, None, Ok, Bor}
+use Rattle.std.proofs.Common.{◌≡◌, ◌∙◌, ap, refl, sym, subst, Option, None, Ok, Bor}
+use Rattle.std.specs.Prelude.{IsSome}
 use Rattle.std.specs.Option.{option_copied}
 use Rattle.craq_model.specs.declared.step.Step.{Step}
 use Rattle.craq_model.specs.Plain.{Plain}
@@ -96,6 +97,20 @@ returns-in-Some-clause-opening g c =
       | in-Called-1 w ↦ rw w.self-is same
       | in-AtNode-1 w ↦ rw w.self-is same
       | in-AtMaster-1 w ↦ rw w.self-is same
+    ]
+
+pub returns-in-Some-clause-moved : goal.returns-in-Some-clause-moved
+returns-in-Some-clause-moved g c =
+    let old = c.self.inside.desk in
+    let new = c.take.new.self in
+    let t : Took g.C.Core.represents old.cell new.cell c.self.invariant.node c.args.event =
+    took g.C.Core.represents old.cell new.cell c.self.invariant.node c.args.event c.args.cause.pass c.in-Ok.receipt (c.in-Ok.ensures.step c.self.invariant.node c.self.invariant.stands) in
+    let moved : IsSome new.cell.last = subst (λ (o : Option Step). IsSome o) (sym t.last) refl in
+    elim c.match-entry.branch [
+      | in-Opened-1 w ↦ rw w.self-is moved
+      | in-Called-1 w ↦ rw w.self-is moved
+      | in-AtNode-1 w ↦ rw w.self-is moved
+      | in-AtMaster-1 w ↦ rw w.self-is moved
     ]
 
 pub returns-in-Some-clause-taken : goal.returns-in-Some-clause-taken

@@ -1,0 +1,4 @@
+mod Copies
+mod Orders
+mod Seen
+mod Standing

@@ -1,0 +1,64 @@
+//! The promise for the running store: each call stands in a run of its chain, and each such run has
+//! a valid explanation. States laws: functions without bodies, whose contracts are the theorems.
+#![tactic(auto)]
+
+ghost use Rattle.std.specs.Prelude.{◌≡◌, ◌≤◌, ℕ, suc, true, List, Some};
+ghost use mathlib.Core.List.{IsPrefix};
+ghost use Rattle.craq_names.specs.declared.name.NodeName.{NodeName};
+ghost use Rattle.craq_model.specs.declared.ask.Answer.{Answer};
+ghost use Rattle.craq_model.specs.declared.ask.Ask.{Ask};
+ghost use Rattle.craq_runs.specs.Explain.{explain};
+ghost use Rattle.craq_runs.specs.Seen.{is_strong_ask};
+ghost use Rattle.craq_runs.specs.Typed.{IsTypedRunOf};
+ghost use Rattle.craq_runs.specs.Valid.{IsValid};
+ghost use Rattle.craq_seat.specs.Calls.{Called};
+ghost use Rattle.craq_causality.specs.Causal.{AreFew};
+ghost use Rattle.craq_ghost_history.specs.Histories.{AreComparable};
+ghost use Rattle.craq_store_history.specs.declared.entry.Entry.{Entry};
+ghost use Rattle.craq_store_history.specs.Chains.{IsHistory};
+ghost use Rattle.craq_store_history.specs.Entries.{lines_in, members_in};
+ghost use Rattle.craq_store_parts.specs.Witnessed.{IsWitnessed};
+ghost use Rattle.craq_running_promise.specs.Standing.{AnswersAsOneCopy, IsCallOf, StandsIn, run_in};
+
+/// States where the calls of a running store's clients stand. `new` is the history that a client has
+/// seen after its call, and `old` the one that it had seen before.
+///
+/// - `stands`: in each later history of the store, the request stands in the lines of its chain
+///   after all that the client had seen before, and the reply stands in what it has seen since.
+/// - `together`: two calls of one store's clients stand in one history, since one of the histories
+///   that they have seen begins with the other (`Client::compare`).
+/// - `called`: the lines of a chain, at most 2^64 - 1 with as many messages, are a run. Clients see
+///   the request of a call that stands there, and its reply, as moves of that run.
+/// - `explained`: that run has a valid explanation: one growing list of updates, no request number
+///   twice, and a guarantee for each reply.
+pub fn witnessed_calls_are_explained()
+    ensures stands { (client : ℕ) (old new log : List Entry) (node : NodeName) (ask : Ask) (answer : Answer) (receipt : Called)
+        → IsWitnessed client old node ask answer receipt new → IsPrefix new log → IsHistory log → StandsIn old new node ask receipt log × (receipt.answer ≡ answer) }
+    ensures together { (client other : ℕ) (old new before after : List Entry) (node at : NodeName) (ask request : Ask) (answer reply : Answer) (receipt its : Called)
+        → IsWitnessed client old node ask answer receipt new → IsWitnessed other before at request reply its after → AreComparable new after
+        → (log : List Entry) × IsHistory log × IsPrefix new log × IsPrefix after log × StandsIn old new node ask receipt log × StandsIn before after at request its log }
+    ensures called { (old new log : List Entry) (node : NodeName) (ask : Ask) (receipt : Called) (s : StandsIn old new node ask receipt log) → IsHistory log → AreFew (lines_in node.chain log)
+        → IsCallOf node ask receipt (suc s.asked_place) (suc s.answered_place) (run_in node.chain s.members log) }
+    ensures explained { (log : List Entry) (chain : ℕ) (members : List ℕ) → IsHistory log → members_in chain log ≡ Some members → AreFew (lines_in chain log)
+        → IsTypedRunOf chain (run_in chain members log) × IsValid (run_in chain members log) (explain chain (run_in chain members log)) }
+{}
+
+/// The promise for a running store: states that each strong reply of a call, to an update or to a
+/// strong read, is the reply of a single copy.
+///
+/// - `one_copy`: in each later history of the store, a single copy that has taken a prefix of the
+///   chain's list of updates gives this reply. The prefix has all updates that were committed before
+///   the request, and none that was not committed when the reply was given. The request follows all
+///   that the client had seen before its call.
+/// - `in_order`: the prefix of a call is no shorter than that of a call whose history its client had
+///   seen before. So the calls of one client are in order, and so are those of two clients of which
+///   one has seen what the other saw.
+///
+/// The list only grows: `explanations_are_never_taken_back` of `craq_promise`.
+pub fn strong_replies_are_of_one_copy()
+    ensures one_copy { (client : ℕ) (old new log : List Entry) (node : NodeName) (ask : Ask) (answer : Answer) (receipt : Called) (members : List ℕ)
+        → IsWitnessed client old node ask answer receipt new → IsPrefix new log → IsHistory log → members_in node.chain log ≡ Some members → AreFew (lines_in node.chain log) → is_strong_ask ask ≡ true
+        → AnswersAsOneCopy old new node.chain members ask answer log }
+    ensures in_order { (chain : ℕ) (members : List ℕ) (log old new before after : List Entry) (ask request : Ask) (answer reply : Answer) → IsHistory log → members_in chain log ≡ Some members → AreFew (lines_in chain log)
+        → (first : AnswersAsOneCopy old new chain members ask answer log) (second : AnswersAsOneCopy before after chain members request reply log) → IsPrefix new before → IsPrefix after log → first.position ≤ second.position }
+{}

@@ -60,12 +60,15 @@ class Way:
         words = [os.path.realpath(self.program), "--threads", str(options.threads)]
         words += ["--metrics", f"127.0.0.1:{self.metrics}"] if self.metrics else []
         given = {name: value for name, value in os.environ.items() if name != "GLIBC_TUNABLES"}
-        process = subprocess.Popen([*words, plan, "127.0.0.1:0"], stdin=subprocess.PIPE, stdout=subprocess.PIPE,
-                                   stderr=subprocess.DEVNULL, text=True, env=given | self.environment)
+        process = subprocess.Popen([*words, plan, "127.0.0.1:0"], stdin=subprocess.PIPE,
+                                   stdout=subprocess.PIPE, stderr=subprocess.DEVNULL, text=True,
+                                   env=given | self.environment)
         found = re.fullmatch(r"listening (\d+)\n", process.stdout.readline())
         if self.reader:
             self.reader.start()
-        return servers.Server(process, int(found[1]), "craq") if found else sys.exit("pair: craqd does not listen")
+        if not found:
+            sys.exit("pair: craqd does not listen")
+        return servers.Server(process, int(found[1]), "craq")
 
 
 def ways_of(craqd, what):

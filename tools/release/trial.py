@@ -151,14 +151,15 @@ def served(checks, it, ending):
 
 
 def lines(checks, it):
-    """Lines that are written to the named pipe of craqd-in-order reach craqd, and the pipe goes at the end."""
+    """Lines written to the named pipe of craqd-in-order reach craqd, and the pipe goes at the end."""
     pipe = os.path.join(it.home, "lines")
     words = [it.path("bin/craqd-in-order"), "--control", it.path("etc/jilsdau/plan.toml"), "127.0.0.1:0"]
     server = subprocess.Popen(words, cwd=it.home, env={**it.environment, "CRAQD_LINES": pipe},
                               stdin=subprocess.DEVNULL, stdout=subprocess.PIPE, stderr=subprocess.PIPE,
                               text=True, start_new_session=True)
     try:
-        checks.that(server.stdout.readline().startswith("listening "), "craqd-in-order with a named pipe listens")
+        checks.that(server.stdout.readline().startswith("listening "),
+                    "craqd-in-order with a named pipe listens")
         server.stderr.readline()
         told = []
         for line in "stop a/3", "remove a/3", "join a/4":

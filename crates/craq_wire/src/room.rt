@@ -2,12 +2,17 @@
 use craq_commands::{Entry, Write};
 use craq_model::Body;
 
-/// The bytes that most messages without entries need; also the header and count of a message with
-/// entries.
-const USUAL_ROOM: usize = 128;
+/// The bytes of a message's header, and of the count in a message with entries.
+const HEADER_ROOM: usize = 33;
 
-/// The bytes that most entries need beside their writes.
-const ENTRY_ROOM: usize = 64;
+/// The bytes of a message whose body is at most two numbers.
+const SHORT_ROOM: usize = 48;
+
+/// The bytes that most messages with a membership or a state need.
+const STATE_ROOM: usize = 128;
+
+/// The bytes that an entry with the reply of a put needs beside its writes.
+const ENTRY_ROOM: usize = 46;
 
 /// The bytes that a write needs beside its key and its value: both lengths and the version.
 const WRITE_ROOM: usize = 11;
@@ -27,17 +32,20 @@ fn room_of_entry(entry: &Entry) -> usize {
 }
 
 /// Estimates the size of a message with this body in bytes. Entries are measured one by one; the
-/// buffer grows if the estimate is too small.
+/// buffer grows if the estimate is too small. A new buffer is filled with zeros, so each byte too
+/// many costs time.
 pub(crate) fn room_of(body: &Body) -> usize {
     match body {
-        Body::Entry(entry) => USUAL_ROOM.saturating_add(room_of_entry(entry)),
+        Body::Entry(entry) => HEADER_ROOM.saturating_add(room_of_entry(entry)),
         Body::Batch(entries) => {
-            let mut room = USUAL_ROOM;
+            let mut room = HEADER_ROOM;
             for entry in entries.as_slice() {
                 room = room.saturating_add(room_of_entry(entry));
             }
             room
         }
-        _ => USUAL_ROOM,
+        Body::Query { key, .. } => SHORT_ROOM.saturating_add(key.as_slice().len()),
+        Body::Config { .. } | Body::Copy { .. } | Body::Part(_) => STATE_ROOM,
+        _ => SHORT_ROOM,
     }
 }

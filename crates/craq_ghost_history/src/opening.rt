@@ -1,6 +1,6 @@
 //! `Opened`: a history before its first entry; and `Registrar`, which gives each author's right
 //! once.
-ghost use Rattle.std.specs.Prelude.{◌≡◌, ◌+◌, ◌∷◌, ◌++◌, [], IfSome, IsNone, true};
+ghost use Rattle.std.specs.Prelude.{◌≡◌, ◌+◌, ◌-◌, ◌^◌, ◌∷◌, ◌++◌, [], IfSome, IsNone, true};
 ghost use Rattle.craq_ghost_history.specs.Authors.{is_used};
 ghost use Rattle.craq_ghost_history.specs.declared.author.Author.TheVariants.{Client};
 
@@ -126,9 +126,11 @@ impl<E, X: HistoryRule<E>, N: Named> Registrar<E, X, N> {
         self.next
     }
 
-    /// Gives the right to the entries of a new session of a client. None: there is no next number.
+    /// Gives the right to the entries of a new session of a client. None, with nothing changed:
+    /// 2^64 - 1 were given.
     pub fn client(&mut self, history: &History<E, X, N>) -> Option<Writer<E, X, N>>
-        ensures { IfSome result (λ w. (w.author ≡ Client self.old.next) × (w.seen ≡ []) × (self.new.next ≡ self.old.next + 1)) }
+        ensures given { IfSome result (λ w. (w.author ≡ Client self.old.next) × (w.seen ≡ []) × (self.new.next ≡ self.old.next + 1)) }
+        ensures none { IsNone result → (self.old.next ≡ 2 ^ 64 - 1) × (self.new ≡ self.old) }
     {
         if self.next == u64::MAX {
             return None;

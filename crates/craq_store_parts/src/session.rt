@@ -1,5 +1,6 @@
 //! `Session`: a client's session, which adds each call to the history before it is asked.
-ghost use Rattle.std.specs.Prelude.{◌≡◌, ◌+◌, [], None, IfSome};
+ghost use Rattle.std.specs.Prelude.{◌≡◌, ◌+◌, [], None, IfSome, IsNone};
+ghost use Rattle.craq_names.specs.Limits.{greatest};
 ghost use mathlib.Core.List.{IsPrefix};
 ghost use Rattle.craq_ghost_history.specs.Authors.{of};
 ghost use Rattle.craq_ghost_history.specs.Histories.{AreComparable};
@@ -75,12 +76,14 @@ impl<N: Named> Session<N> {
         }
     }
 
-    /// Opens the session of a new client. None: there is no next number.
+    /// Opens the session of a new client. None: 2^64 - 1 were opened.
     pub fn open(
         history: &StoreHistory<N>,
         registrar: &mut Registrar<Entry, StoreRule, N>,
     ) -> Option<Self>
-        ensures { IfSome result (λ s. (s.next ≡ 0) × (s.seen ≡ [])) }
+        ensures opened { IfSome result (λ s. (s.client ≡ registrar.old.next) × (s.next ≡ 0) × (s.seen ≡ [])) }
+        ensures next { IfSome result (λ s. registrar.new.next ≡ registrar.old.next + 1) }
+        ensures none { IsNone result → registrar.old.next ≡ greatest }
     {
         let client = registrar.next_client();
         let writer = registrar.client(history)?;
@@ -88,7 +91,7 @@ impl<N: Named> Session<N> {
     }
 
     /// Makes a call: adds it to the history, after all that the session has seen. None, with
-    /// nothing changed: there is no next number.
+    /// nothing changed: the session made 2^64 - 1 calls.
     pub fn call(
         &mut self,
         history: &StoreHistory<N>,
@@ -101,7 +104,7 @@ impl<N: Named> Session<N> {
         ensures called { IfSome result (λ c. WasCalled c.token c.call name ask.now) }
         ensures next { IfSome result (λ c. self.new.next ≡ self.old.next + 1) }
         ensures client { self.new.client ≡ self.old.client }
-        ensures none { result ≡ None → self.new ≡ self.old }
+        ensures none { result ≡ None → (self.old.next ≡ greatest) × (self.new ≡ self.old) }
     {
         if self.next == u64::MAX {
             return None;

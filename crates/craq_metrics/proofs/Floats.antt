@@ -12,6 +12,7 @@ numbers [] = refl
 numbers (n ∷ ns) = numbers ns
 
 nodes : (ns : List NodeFigures) → items_have_float (items_of (map node_data ns)) ≡ false
+unfolding node_data
 nodes [] = refl
 nodes (n ∷ ns) = nodes ns
 

@@ -14,7 +14,7 @@ use Rattle.craq_metrics.specs.declared.metrics.ChainMetric.TheVariants as chains
 use Rattle.craq_metrics.specs.declared.metrics.NodeMetric.{NodeMetric}
 use Rattle.craq_metrics.specs.declared.metrics.NodeMetric.TheVariants as nodes
 use Rattle.craq_metrics.specs.Exposition.{Sample, Family}
-use Rattle.craq_metrics.specs.Metrics.{kind_name, server_name, server_help, server_kind, server_value, count_name, count_help, chain_name, chain_help, chain_value, node_name, node_help, node_value}
+use Rattle.craq_metrics.specs.Metrics.{kind_name, server_name, server_help, server_kind, server_value, count_name, count_help, chain_name, chain_help, chain_value, node_name, node_help, node_kind, node_value}
 
 -- ---- the server
 
@@ -91,7 +91,7 @@ unfoldable pub node_family : List ChainFigures → NodeMetric → Family
 node_family figures metric = record {
   name = node_name metric;
   help = node_help metric;
-  kind = kind_name Gauge;
+  kind = kind_name (node_kind metric);
   samples = flat_map (node_samples metric) figures;
 }
 
@@ -116,6 +116,7 @@ node_count_families figures =
     ∷ node_family figures nodes.Waiting
     ∷ node_family figures nodes.Objects
     ∷ node_family figures nodes.Bytes
+    ∷ node_family figures nodes.Lost
     ∷ []
 
 abbrev pub node_families : List ChainFigures → List Family

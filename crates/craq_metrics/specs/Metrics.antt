@@ -58,7 +58,7 @@ count_name counts.Refusals = codes "craqd_refusals_total"
 
 abbrev pub count_help : CountMetric → List ℕ
 count_help counts.Requests = codes "Requests, by kind."
-count_help counts.Refusals = codes "Refused updates and reads, by the refusal's number."
+count_help counts.Refusals = codes "Refused requests, and frames that are none, by the refusal's number."
 
 -- ---- metrics of a chain
 
@@ -84,6 +84,7 @@ node_name nodes.Committed = codes "craqd_node_committed_entries"
 node_name nodes.Waiting = codes "craqd_node_waiting_requests"
 node_name nodes.Objects = codes "craqd_node_objects"
 node_name nodes.Bytes = codes "craqd_node_bytes"
+node_name nodes.Lost = codes "craqd_node_lost_messages_total"
 
 abbrev pub node_help : NodeMetric → List ℕ
 node_help nodes.Ready = codes "1 if the node holds its chain's history."
@@ -93,6 +94,17 @@ node_help nodes.Committed = codes "Entries that the node knows to be committed."
 node_help nodes.Waiting = codes "Requests that wait at the node."
 node_help nodes.Objects = codes "Objects that the node holds."
 node_help nodes.Bytes = codes "Bytes of the keys and values that the node holds."
+node_help nodes.Lost = codes "Messages at the node that were lost because memory ended."
+
+abbrev pub node_kind : NodeMetric → Kind
+node_kind nodes.Ready = kinds.Gauge
+node_kind nodes.Running = kinds.Gauge
+node_kind nodes.Length = kinds.Gauge
+node_kind nodes.Committed = kinds.Gauge
+node_kind nodes.Waiting = kinds.Gauge
+node_kind nodes.Objects = kinds.Gauge
+node_kind nodes.Bytes = kinds.Gauge
+node_kind nodes.Lost = kinds.Counter
 
 -- 1 for true, 0 for false
 abbrev pub bit : Bool → ℕ
@@ -107,3 +119,4 @@ node_value node nodes.Committed = node.committed
 node_value node nodes.Waiting = node.waiting
 node_value node nodes.Objects = node.objects
 node_value node nodes.Bytes = node.bytes
+node_value node nodes.Lost = node.lost

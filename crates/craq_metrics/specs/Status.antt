@@ -10,17 +10,18 @@ use Rattle.craq_metrics.specs.declared.figures.NodeFigures.{NodeFigures}
 abbrev pub number_of : ℕ → Data
 number_of n = number (unsigned n)
 
-abbrev pub node_data : NodeFigures → Data
+unfoldable pub node_data : NodeFigures → Data
 node_data n =
     object
     (member (codes "bytes") (number_of n.bytes)
     (member (codes "committed") (number_of n.committed)
     (member (codes "length") (number_of n.length)
+    (member (codes "lost") (number_of n.lost)
     (member (codes "node") (number_of n.node)
     (member (codes "objects") (number_of n.objects)
     (member (codes "ready") (boolean n.is_ready)
     (member (codes "running") (boolean n.is_running)
-    (member (codes "waiting") (number_of n.waiting) no_members))))))))
+    (member (codes "waiting") (number_of n.waiting) no_members)))))))))
 
 abbrev pub chain_data : ChainFigures → Data
 chain_data c =

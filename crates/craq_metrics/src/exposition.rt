@@ -191,7 +191,7 @@ fn push_nodes(
 ) -> Result<(), AllocError>
     ensures { OnOk result (string_bytes text.new ≡ string_bytes text.old ++ family_text (node_family chains.now metric)) }
 {
-    push_heading(text, metric.name(), metric.help(), Kind::Gauge.name())?;
+    push_heading(text, metric.name(), metric.help(), metric.kind().name())?;
     push_node_samples(text, chains, metric)
 }
 
@@ -219,7 +219,8 @@ fn push_node_counts(text: &mut String, chains: &[ChainFigures]) -> Result<(), Al
     push_nodes(text, chains, NodeMetric::Committed)?;
     push_nodes(text, chains, NodeMetric::Waiting)?;
     push_nodes(text, chains, NodeMetric::Objects)?;
-    push_nodes(text, chains, NodeMetric::Bytes)
+    push_nodes(text, chains, NodeMetric::Bytes)?;
+    push_nodes(text, chains, NodeMetric::Lost)
 }
 
 /// Appends the metrics of nodes.

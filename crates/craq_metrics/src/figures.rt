@@ -21,7 +21,8 @@ pub struct ServerFigures {
     pub reads: u64,
     /// The number of requests for the status.
     pub statuses: u64,
-    /// The number of refused updates and reads, by the refusal's number, from 1.
+    /// The number of refused updates and reads, and of refused frames that are none, by the
+    /// refusal's number, from 1.
     pub refused: [u64; REFUSALS],
     /// The number of bytes that came from clients.
     pub read_bytes: u64,
@@ -48,6 +49,8 @@ pub struct NodeFigures {
     pub objects: u64,
     /// The number of bytes of the keys and values that it holds.
     pub bytes: u64,
+    /// The number of messages to and from it that were lost because memory ended.
+    pub lost: u64,
 }
 
 /// Figures of a chain.

@@ -1,6 +1,6 @@
 //! The metrics: their names, helps, kinds and values; for `exposition`.
 ghost use Rattle.std.specs.Prelude.{◌≡◌};
-ghost use Rattle.craq_metrics.specs.Metrics.{kind_name, server_name, server_help, server_kind, server_value, count_name, count_help, chain_name, chain_help, chain_value, node_name, node_help, node_value, bit};
+ghost use Rattle.craq_metrics.specs.Metrics.{kind_name, server_name, server_help, server_kind, server_value, count_name, count_help, chain_name, chain_help, chain_value, node_name, node_help, node_kind, node_value, bit};
 
 use crate::{ChainFigures, NodeFigures, ServerFigures};
 
@@ -115,7 +115,8 @@ impl CountMetric {
     {
         match self {
             CountMetric::Requests => "Requests, by kind.",
-            CountMetric::Refusals => "Refused updates and reads, by the refusal's number.",
+            CountMetric::Refusals =>
+                "Refused requests, and frames that are none, by the refusal's number.",
         }
     }
 }
@@ -169,6 +170,7 @@ pub(crate) enum NodeMetric {
     Waiting,
     Objects,
     Bytes,
+    Lost,
 }
 
 /// Returns 1 for true and 0 for false.
@@ -191,6 +193,7 @@ impl NodeMetric {
             NodeMetric::Waiting => "craqd_node_waiting_requests",
             NodeMetric::Objects => "craqd_node_objects",
             NodeMetric::Bytes => "craqd_node_bytes",
+            NodeMetric::Lost => "craqd_node_lost_messages_total",
         }
     }
 
@@ -206,6 +209,7 @@ impl NodeMetric {
             NodeMetric::Waiting => "Requests that wait at the node.",
             NodeMetric::Objects => "Objects that the node holds.",
             NodeMetric::Bytes => "Bytes of the keys and values that the node holds.",
+            NodeMetric::Lost => "Messages at the node that were lost because memory ended.",
         }
     }
 
@@ -221,6 +225,17 @@ impl NodeMetric {
             NodeMetric::Waiting => node.waiting,
             NodeMetric::Objects => node.objects,
             NodeMetric::Bytes => node.bytes,
+            NodeMetric::Lost => node.lost,
+        }
+    }
+
+    /// Returns its kind.
+    pub(crate) const fn kind(self) -> Kind
+        ensures { result ≡ node_kind self }
+    {
+        match self {
+            NodeMetric::Lost => Kind::Counter,
+            _ => Kind::Gauge,
         }
     }
 }

@@ -8,13 +8,21 @@ use serde_json::{Value, json};
 use std::alloc::{AllocError, Global};
 
 /// Returns a node as a JSON object. Fails only when out of memory.
+#[tactic(auto, unfolding(crate::specs::Status::node_data))]
 fn node_value(alloc: Global, node: &NodeFigures) -> Result<Value, AllocError>
     ensures { IfOk result (λ v. view v ≡ node_data node.now) }
 {
-    let (id, ready, running) = (u64::from(node.node), node.is_ready, node.is_running);
-    let (length, committed) = (node.length, node.committed);
-    let (waiting, objects, bytes) = (node.waiting, node.objects, node.bytes);
-    json!(in alloc; {"bytes": bytes, "committed": committed, "length": length, "node": id, "objects": objects, "ready": ready, "running": running, "waiting": waiting})
+    json!(in alloc; {
+        "bytes": node.bytes,
+        "committed": node.committed,
+        "length": node.length,
+        "lost": node.lost,
+        "node": u64::from(node.node),
+        "objects": node.objects,
+        "ready": node.is_ready,
+        "running": node.is_running,
+        "waiting": node.waiting
+    })
 }
 
 /// Returns nodes as JSON objects. Fails only when out of memory.
@@ -32,9 +40,11 @@ fn node_values(alloc: Global, nodes: &[NodeFigures]) -> Result<Vec<Value>, Alloc
 fn chain_value(alloc: Global, chain: &ChainFigures) -> Result<Value, AllocError>
     ensures { IfOk result (λ v. view v ≡ chain_data chain.now) }
 {
-    let nodes = Value::Array(node_values(alloc, chain.nodes.as_slice())?);
-    let (epoch, name) = (chain.epoch, chain.name.as_str());
-    json!(in alloc; {"epoch": epoch, "name": name, "nodes": nodes})
+    json!(in alloc; {
+        "epoch": chain.epoch,
+        "name": chain.name.as_str(),
+        "nodes": Value::Array(node_values(alloc, chain.nodes.as_slice())?)
+    })
 }
 
 /// Returns chains as JSON objects. Fails only when out of memory.
@@ -63,28 +73,29 @@ fn count_values(alloc: Global, counts: &[u64]) -> Result<Vec<Value>, AllocError>
 fn connections_value(alloc: Global, server: &ServerFigures) -> Result<Value, AllocError>
     ensures { IfOk result (λ v. view v ≡ connections_data server.now) }
 {
-    let (accepted, open, turned_away) = (
-        server.accepted,
-        server.open_connections,
-        server.turned_away,
-    );
-    json!(in alloc; {"accepted": accepted, "open": open, "turned_away": turned_away})
+    json!(in alloc; {
+        "accepted": server.accepted,
+        "open": server.open_connections,
+        "turned_away": server.turned_away
+    })
 }
 
 /// Returns the counts of requests as a JSON object. Fails only when out of memory.
 fn requests_value(alloc: Global, server: &ServerFigures) -> Result<Value, AllocError>
     ensures { IfOk result (λ v. view v ≡ requests_data server.now) }
 {
-    let (reads, statuses, updates) = (server.reads, server.statuses, server.updates);
-    json!(in alloc; {"reads": reads, "statuses": statuses, "updates": updates})
+    json!(in alloc; {
+        "reads": server.reads,
+        "statuses": server.statuses,
+        "updates": server.updates
+    })
 }
 
 /// Returns the counts of bytes as a JSON object. Fails only when out of memory.
 fn bytes_value(alloc: Global, server: &ServerFigures) -> Result<Value, AllocError>
     ensures { IfOk result (λ v. view v ≡ bytes_data server.now) }
 {
-    let (read, written) = (server.read_bytes, server.written_bytes);
-    json!(in alloc; {"read": read, "written": written})
+    json!(in alloc; {"read": server.read_bytes, "written": server.written_bytes})
 }
 
 /// Returns the figures as a JSON object. Fails only when out of memory.
@@ -96,13 +107,14 @@ fn status_value(
 ) -> Result<Value, AllocError>
     ensures { IfOk result (λ v. view v ≡ status_data server.now chains.now) }
 {
-    let bytes = bytes_value(alloc, server)?;
-    let chains = Value::Array(chain_values(alloc, chains)?);
-    let connections = connections_value(alloc, server)?;
-    let refused = Value::Array(count_values(alloc, server.refused.as_slice())?);
-    let requests = requests_value(alloc, server)?;
-    let uptime = server.uptime;
-    json!(in alloc; {"bytes": bytes, "chains": chains, "connections": connections, "refusals": refused, "requests": requests, "uptime_seconds": uptime})
+    json!(in alloc; {
+        "bytes": bytes_value(alloc, server)?,
+        "chains": Value::Array(chain_values(alloc, chains)?),
+        "connections": connections_value(alloc, server)?,
+        "refusals": Value::Array(count_values(alloc, server.refused.as_slice())?),
+        "requests": requests_value(alloc, server)?,
+        "uptime_seconds": server.uptime
+    })
 }
 
 /// Returns the figures of a server and its chains as compact JSON. `refusals` has the count of each

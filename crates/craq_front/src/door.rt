@@ -6,6 +6,7 @@ ghost use Rattle.craq_frames.specs.declared.ask.ClientMessage.{ClientMessage};
 ghost use Rattle.craq_front.specs.Door.{IsShort, IsAllowed};
 
 use craq_frames::{ClientMessage, ClientReply};
+use craq_names::Refusal;
 
 /// The most bytes of a reply's payload. This project's profile.
 pub(crate) const MOST_OF_A_REPLY: usize = 100_000;
@@ -20,6 +21,11 @@ pub trait Door {
     fn ask(&mut self, message: ClientMessage) -> ClientReply
         ensures turn { turn self.old message result self.new }
         ensures allowed { IsAllowed result };
+
+    /// Notes that bytes of the client, which are no request, get this refusal.
+    fn unasked(&self, refusal: &Refusal) {
+        let _refusal = refusal;
+    }
 }
 
 /// Returns whether the reply fits a payload of at most 100,000 bytes. Only a status text can be

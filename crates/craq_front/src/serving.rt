@@ -54,8 +54,18 @@ fn answer_next<D: Door>(
             answer_payload(codec, door, message)?;
             Ok(true)
         }
-        Step::Refused => Ok(true),
+        Step::Refused => {
+            door.unasked(&Refusal::BadFrame);
+            Ok(true)
+        }
         Step::Nothing => Ok(false),
+    }
+}
+
+/// Tells the request handler of a frame that is too long. The other refusals are not sent.
+fn note<D: Door>(door: &D, refusal: &Refusal) {
+    if let Refusal::FrameTooLong = refusal {
+        door.unasked(refusal);
     }
 }
 
@@ -83,7 +93,10 @@ fn answer_batch<D: Door>(
         match answer_next(alloc, codec, door) {
             Ok(true) => *frames += 1,
             Ok(false) => return Ok(true),
-            Err(refusal) => return Err(refusal),
+            Err(refusal) => {
+                note(door, &refusal);
+                return Err(refusal);
+            }
         }
     }
     Ok(false)

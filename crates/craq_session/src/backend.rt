@@ -27,6 +27,9 @@ pub trait Backend {
     /// Returns the chains and their members as text. Fails only when out of memory.
     fn status(&self) -> Result<Text, AllocError>
         ensures { IfOk result (λ text. tells self.now text) };
+
+    /// Notes that bytes of a client, which are no request, get this refusal.
+    fn unasked(&self, refusal: &Refusal);
 }
 
 /// A backend that takes a call without waiting: its outcome comes at once, or later by a

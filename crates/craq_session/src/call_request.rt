@@ -95,7 +95,10 @@ pub(crate) fn begin_turn<C: Backend>(
         Demand::Status => Begun::Reported(reported(status_of(backend))),
         Demand::Call(request) => match calls.make_room() {
             Ok(()) => Begun::Calls(request),
-            Err(_) => Begun::Reported(reported(Err(Refusal::Memory))),
+            Err(_) => {
+                drop(request);
+                Begun::Reported(reported(Err(Refusal::Memory)))
+            }
         },
     }
 }
@@ -120,8 +123,13 @@ fn reply_of_call(
 {
     let receipt = outcome?;
     let CallRequest { node, pass, ask } = request;
-    let answer = answer_of_call(alloc, &receipt, node, ask, *pass)?;
-    Ok(calls.reply_to(answer, receipt))
+    match answer_of_call(alloc, &receipt, node, ask, *pass) {
+        Ok(answer) => Ok(calls.reply_to(answer, receipt)),
+        Err(refusal) => {
+            drop(receipt);
+            Err(refusal)
+        }
+    }
 }
 
 /// Ends the request that asked for this call, with the room that `begin_turn` made. Returns the

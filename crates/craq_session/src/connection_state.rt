@@ -36,6 +36,13 @@ pub(crate) enum Phase {
     Over(Ending),
 }
 
+/// Puts a phase where another was, which is dropped.
+fn put(place: &mut Phase, phase: Phase)
+    ensures { place.new ≡ phase }
+{
+    drop(mem::replace(place, phase));
+}
+
 /// The outcome of a step.
 #[derive(Debug)]
 pub enum Stepped {
@@ -121,11 +128,11 @@ impl ConnectionState {
         match self.codec.receive(alloc, bytes) {
             Ok(None) => Ok(()),
             Ok(Some(message)) => {
-                self.phase = Phase::Asks(message);
+                put(&mut self.phase, Phase::Asks(message));
                 Ok(())
             }
             Err(error) => {
-                self.phase = Phase::Over(Ending::Memory);
+                put(&mut self.phase, Phase::Over(Ending::Memory));
                 Err(error)
             }
         }
@@ -171,7 +178,7 @@ impl ConnectionState {
     {
         let phase = mem::replace(&mut self.phase, Phase::Idle);
         let (phase, stepped) = advance(alloc, backend, &mut self.codec, &mut self.calls, phase);
-        self.phase = phase;
+        put(&mut self.phase, phase);
         stepped
     }
 
@@ -207,7 +214,8 @@ impl ConnectionState {
         ensures keep_receipts { self.new.calls.keep_receipts ≡ self.old.calls.keep_receipts }
     {
         let phase = mem::replace(&mut self.phase, Phase::Idle);
-        self.phase = answered(alloc, &mut self.codec, &mut self.calls, phase, outcome);
+        let phase = answered(alloc, &mut self.codec, &mut self.calls, phase, outcome);
+        put(&mut self.phase, phase);
     }
 
     /// Returns the receipts of all calls, in order, where they are kept; else none. Takes no
@@ -216,10 +224,12 @@ impl ConnectionState {
         ensures { result.items ≡ kept self.calls.keep_receipts self.calls.receipts.items }
     {
         let ConnectionState {
-            codec: _,
+            codec,
             calls,
-            phase: _,
+            phase,
         } = self;
+        drop(codec);
+        drop(phase);
         calls.into_receipts()
     }
 }

@@ -9,6 +9,7 @@ use crate::{BlockingBackend, CallRequest, DoorCalls, Load, UnsentCall, outcome_o
 use craq_completions::{Outcome, Token};
 use craq_frames::{ClientMessage, ClientReply};
 use craq_front::Door;
+use craq_names::Refusal;
 use std::alloc::Global;
 
 /// The token of the call of a door, which has at most one under way.
@@ -73,8 +74,14 @@ impl<C: BlockingBackend> Door for CallDoor<C> {
                 if let Err(refusal) = &outcome {
                     self.backend.refused(self.slot, *refusal);
                 }
-                end_turn(self.alloc, &mut self.calls, &request, outcome)
+                let reply = end_turn(self.alloc, &mut self.calls, &request, outcome);
+                drop(request);
+                reply
             }
         }
+    }
+
+    fn unasked(&self, refusal: &Refusal) {
+        self.backend.unasked(refusal);
     }
 }

@@ -28,7 +28,7 @@ fn next_phase(codec: &mut ProtocolCodec, reply: ClientReply) -> Phase
 }
 
 /// Looks for the next frame. Returns the state after that, and the outcome.
-fn find(alloc: Global, codec: &mut ProtocolCodec) -> (Phase, Stepped)
+fn find<C: Backend>(alloc: Global, backend: &C, codec: &mut ProtocolCodec) -> (Phase, Stepped)
     requires { codec.old.asking ≡ None }
     ensures more { HasNoMore Phase.Idle codec.old result.0 codec.new }
     ensures found { Found result.0 result.1 codec.old codec.new }
@@ -39,10 +39,16 @@ fn find(alloc: Global, codec: &mut ProtocolCodec) -> (Phase, Stepped)
     }
     match codec.next(alloc) {
         Ok(Step::Ask(message)) => (Phase::Asks(message), Stepped::Goes),
-        Ok(Step::Refused) => (Phase::Idle, Stepped::Goes),
+        Ok(Step::Refused) => {
+            backend.unasked(&Refusal::BadFrame);
+            (Phase::Idle, Stepped::Goes)
+        }
         Ok(Step::Nothing) => (Phase::Idle, Stepped::Starved),
         Err(refusal) => match refusal {
-            Refusal::FrameTooLong => (Phase::Over(Ending::TooLong), Stepped::Stays),
+            Refusal::FrameTooLong => {
+                backend.unasked(&refusal);
+                (Phase::Over(Ending::TooLong), Stepped::Stays)
+            }
             _ => (Phase::Over(Ending::Memory), Stepped::Stays),
         },
     }
@@ -82,7 +88,7 @@ pub(crate) fn advance<C: Backend>(
     ensures room { KeepsRoom result.0 calls.new }
 {
     match phase {
-        Phase::Idle => find(alloc, codec),
+        Phase::Idle => find(alloc, backend, codec),
         Phase::Asks(message) => begin(backend, codec, calls, message),
         Phase::Waits(request) => (Phase::Waits(request), Stepped::Stays),
         Phase::Over(ending) => (Phase::Over(ending), Stepped::Stays),
@@ -110,6 +116,9 @@ pub(crate) fn answered(
             drop(request);
             next_phase(codec, reply)
         }
-        other => other,
+        other => {
+            drop(outcome);
+            other
+        }
     }
 }

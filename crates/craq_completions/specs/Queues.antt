@@ -4,8 +4,8 @@ use Rattle.craq_completions.specs.declared.queue_state.Completion.{Completion}
 
 -- the completions in it, in the order in which they came, and how many more are expected; whether there is news of which the owner
 -- has not heard; and whether the owner sleeps, and has to be woken
-pub record QueueView : Type 0 where
-  pub completions : List Completion
+pub record QueueView (T : Type 0) : Type 0 where
+  pub completions : List (Completion T)
   pub expected : ℕ
   pub reported : Bool
   pub sleeps : Bool

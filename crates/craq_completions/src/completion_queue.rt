@@ -8,15 +8,15 @@ use std::sync::{Condvar, Mutex, Wait};
 
 /// A completion queue. Any thread may put completions in; only the owner takes them.
 #[derive(Drop)]
-pub struct CompletionQueue {
-    state: Mutex<QueueState>,
+pub struct CompletionQueue<T: Drop = Outcome> {
+    state: Mutex<QueueState<T>>,
     /// Wakes an owner that waits for completions only.
     arrived: Condvar,
     /// Wakes an owner that also waits for readiness of sockets.
     waker: Option<Waker>,
 }
 
-impl CompletionQueue {
+impl<T: Drop> CompletionQueue<T> {
     /// Makes an empty queue. Its owner is woken by `waker`, or, without one, only within `wait`.
     /// Takes no memory.
     pub fn new(alloc: Global, waker: Option<Waker>) -> Self {
@@ -33,7 +33,7 @@ impl CompletionQueue {
     }
 
     /// Puts in a completion for which there is room. Drops one that is not expected.
-    pub(crate) fn put<R: Wait>(&self, rt: &R, token: Token, reply: Outcome) {
+    pub(crate) fn put<R: Wait>(&self, rt: &R, token: Token, reply: T) {
         let mut state = self.state.lock(rt);
         if !state.expects() {
             return;
@@ -60,7 +60,7 @@ impl CompletionQueue {
     }
 
     /// Moves all completions to the end of `into`. Out of memory, they stay until the next call.
-    pub fn take<R: Wait>(&self, rt: &R, into: &mut Vec<Completion>) {
+    pub fn take<R: Wait>(&self, rt: &R, into: &mut Vec<Completion<T>>) {
         self.state.lock(rt).take(into);
     }
 
@@ -79,7 +79,7 @@ impl CompletionQueue {
     }
 
     /// Waits for a completion and takes it. Only for a queue without a waker.
-    pub fn wait<R: Wait>(&self, rt: &R) -> Option<Completion> {
+    pub fn wait<R: Wait>(&self, rt: &R) -> Option<Completion<T>> {
         let mut state = self.state.lock(rt);
         for _ in rt.forever() {
             if let Some(completion) = state.pop() {

@@ -12,12 +12,12 @@ use std::sync::{Arc, Wait};
 /// The place of one expected completion: its queue and its token. Its holder has to `tell` it a
 /// reply or `forgo` it; else the queue's owner waits forever. A contract sees the token.
 #[derive(Drop)]
-pub struct CompletionSender {
-    completions: Arc<CompletionQueue>,
+pub struct CompletionSender<T: Drop = Outcome> {
+    completions: Arc<CompletionQueue<T>>,
     token: Token,
 }
 
-impl Model for CompletionSender {
+impl<T: Drop> Model for CompletionSender<T> {
     ghost use Rattle.craq_completions.specs.declared.token.Token.{Token};
 
     ghost Value = { Token };
@@ -25,12 +25,12 @@ impl Model for CompletionSender {
     ghost view = { λ a. a.token };
 }
 
-impl CompletionSender {
+impl<T: Drop> CompletionSender<T> {
     /// Reserves room for a completion under this token. Fails only when out of memory, and then
     /// nothing changes.
     pub fn expect<R: Wait>(
         rt: &R,
-        completions: &Arc<CompletionQueue>,
+        completions: &Arc<CompletionQueue<T>>,
         token: Token,
     ) -> Result<Self, AllocError>
         ensures { IfOk result (λ a. a ≡ token) }
@@ -41,7 +41,7 @@ impl CompletionSender {
     }
 
     /// Puts the completion into the queue, and wakes the owner if it sleeps. Takes no memory.
-    pub fn tell<R: Wait>(self, rt: &R, reply: Outcome) {
+    pub fn tell<R: Wait>(self, rt: &R, reply: T) {
         self.completions.put(rt, self.token, reply);
     }
 

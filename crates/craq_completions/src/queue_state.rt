@@ -11,17 +11,18 @@ use std::marker::Model;
 /// The reply to a call: the receipt of the answered call, or the refusal.
 pub type Outcome = Result<CallReceipt, Refusal>;
 
-/// A completion: a reply, and the token by which its reader knows the call.
+/// A completion: a reply, and the token by which its reader knows the call. The reply is an
+/// `Outcome`, unless the queue's owner needs more of it.
 #[derive(Drop)]
-pub struct Completion {
+pub struct Completion<T: Drop = Outcome> {
     pub token: Token,
-    pub reply: Outcome,
+    pub reply: T,
 }
 
 /// The completions that have come and are not yet taken. There is room for each that is expected.
 #[derive(Drop)]
-pub(crate) struct QueueState {
-    completions: Vec<Completion>,
+pub(crate) struct QueueState<T: Drop> {
+    completions: Vec<Completion<T>>,
     expected: usize,
     /// The owner has to look before it sleeps.
     reported: bool,
@@ -29,18 +30,18 @@ pub(crate) struct QueueState {
     sleeps: bool,
 }
 
-impl Model for QueueState {
+impl<T: Drop> Model for QueueState<T> {
     ghost use Rattle.std.specs.Prelude.{◌≤◌, ◌+◌, vec_capacity, vec_len};
     ghost use Rattle.craq_completions.specs.Queues.{QueueView};
 
-    ghost Value = { QueueView };
+    ghost Value = { QueueView T };
 
     ghost view = { λ p. record { completions = p.completions.items; expected = p.expected; reported = p.reported; sleeps = p.sleeps } };
 
     ghost invariant = { λ p. vec_len p.completions + p.expected ≤ vec_capacity p.completions };
 }
 
-impl QueueState {
+impl<T: Drop> QueueState<T> {
     /// Makes an empty pile that expects nothing. Takes no memory.
     pub(crate) fn new(alloc: Global) -> Self
         ensures { result ≡ record { completions = []; expected = 0; reported = false; sleeps = false } }
@@ -78,7 +79,7 @@ impl QueueState {
 
     /// Puts in an expected completion. The owner has to look before it sleeps. Returns whether it
     /// sleeps now, and so has to be woken. Takes no memory.
-    pub(crate) fn put(&mut self, completion: Completion) -> bool
+    pub(crate) fn put(&mut self, completion: Completion<T>) -> bool
         requires { 1 ≤ self.old.expected }
         ensures comes { self.new ≡ record { completions = self.old.completions ++ completion ∷ []; expected = self.old.expected - 1; reported = true; sleeps = false } }
         ensures wakes { result ≡ self.old.sleeps }
@@ -109,7 +110,7 @@ impl QueueState {
 
     /// Moves all completions to the end of `into`, or none when out of memory. From then on only
     /// what comes later is news.
-    pub(crate) fn take(&mut self, into: &mut Vec<Completion>)
+    pub(crate) fn take(&mut self, into: &mut Vec<Completion<T>>)
         ensures none_lost { into.new.items ++ self.new.completions ≡ into.old.items ++ self.old.completions }
         ensures news { self.new.reported ≡ false → self.new.completions ≡ [] }
         ensures others { self.new ≡ record self.old { completions = self.new.completions; reported = self.new.reported } }
@@ -118,7 +119,7 @@ impl QueueState {
     }
 
     /// Takes the completion that came last, if there is one.
-    pub(crate) fn pop(&mut self) -> Option<Completion>
+    pub(crate) fn pop(&mut self) -> Option<Completion<T>>
         ensures some { IfSome result (λ completion. self.old.completions ≡ self.new.completions ++ completion ∷ []) }
         ensures none { result ≡ None → self.old.completions ≡ [] }
         ensures others { self.new ≡ record self.old { completions = self.new.completions } }

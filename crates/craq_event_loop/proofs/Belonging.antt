@@ -87,39 +87,39 @@ delivered s t token c d reply was takes wakes c' here =
 
 module _ {S : Type 0} where
   -- these completions are left, and those behind them are delivered
-  abbrev pub AreLeft : List Completion → List Completion → Slab (Connection S) → Slab (Connection S) → Type 0
-  AreLeft all left old new = (done : List Completion) × (all ≡ left ++ done) × DeliversAll done old new
+  abbrev pub AreLeft : List (Completion (Result Called Refusal)) → List (Completion (Result Called Refusal)) → Slab (Connection S) → Slab (Connection S) → Type 0
+  AreLeft all left old new = (done : List (Completion (Result Called Refusal))) × (all ≡ left ++ done) × DeliversAll done old new
 
-  pub all_left : (all : List Completion) (s : Slab (Connection S)) → AreLeft all all s s
+  pub all_left : (all : List (Completion (Result Called Refusal))) (s : Slab (Connection S)) → AreLeft all all s s
   all_left all s = ([], sym (append-nil all), refl)
 
-  pub one_less : (all left rest : List Completion) (completion : Completion) (s t u : Slab (Connection S))
+  pub one_less : (all left rest : List (Completion (Result Called Refusal))) (completion : Completion (Result Called Refusal)) (s t u : Slab (Connection S))
       → AreLeft all left s t → left ≡ rest ++ completion ∷ [] → DeliversCompletion completion t u → AreLeft all rest s u
   one_less all left rest completion s t u before last delivers = (
     completion ∷ before.0,
-    before.1 ∙ subst (λ (x : List Completion). left ++ before.0 ≡ x ++ before.0) last refl ∙ append_assoc rest (completion ∷ []) before.0,
+    before.1 ∙ subst (λ (x : List (Completion (Result Called Refusal))). left ++ before.0 ≡ x ++ before.0) last refl ∙ append_assoc rest (completion ∷ []) before.0,
     (t, before.2, delivers),
   )
 
-  pub none_left : (all left : List Completion) (s t : Slab (Connection S)) → AreLeft all left s t → left ≡ [] → DeliversAll all s t
+  pub none_left : (all left : List (Completion (Result Called Refusal))) (s t : Slab (Connection S)) → AreLeft all left s t → left ≡ [] → DeliversAll all s t
   none_left all left s t before none =
-      subst (λ (x : List Completion). DeliversAll x s t)
-      (sym (before.1 ∙ subst (λ (x : List Completion). left ++ before.0 ≡ x ++ before.0) none refl))
+      subst (λ (x : List (Completion (Result Called Refusal))). DeliversAll x s t)
+      (sym (before.1 ∙ subst (λ (x : List (Completion (Result Called Refusal))). left ++ before.0 ≡ x ++ before.0) none refl))
       before.2
 
 -- as many completions as there were, one by one
-pub one_shorter : (left rest : List Completion) (completion : Completion) (index all : ℕ) → left ≡ rest ++ completion ∷ [] → length left + index ≡ all → length rest + (index + 1) ≡ all
+pub one_shorter : (left rest : List (Completion (Result Called Refusal))) (completion : Completion (Result Called Refusal)) (index all : ℕ) → left ≡ rest ++ completion ∷ [] → length left + index ≡ all → length rest + (index + 1) ≡ all
 one_shorter left rest completion index all last long =
-    let is : length (rest ++ completion ∷ []) + index ≡ all = subst (λ (x : List Completion). length x + index ≡ all) last long in
+    let is : length (rest ++ completion ∷ []) + index ≡ all = subst (λ (x : List (Completion (Result Called Refusal))). length x + index ≡ all) last long in
     omega (arith, length-append rest (completion ∷ []), is)
 
-pub none_long : (left : List Completion) (index all : ℕ) → length left + index ≡ all → all ≤ index → left ≡ []
+pub none_long : (left : List (Completion (Result Called Refusal))) (index all : ℕ) → length left + index ≡ all → all ≤ index → left ≡ []
 none_long [] index all long reached = refl
 none_long (completion ∷ rest) index all long reached = absurd (omega (arith, long, reached))
 
 -- the last completion that was left, behind those that are left now
-pub last_left : (left popped rest : List Completion) (completion : Completion) → left ≡ popped ++ completion ∷ [] → rest ≡ popped → left ≡ rest ++ completion ∷ []
-last_left left popped rest completion is same = is ∙ subst (λ (x : List Completion). popped ++ completion ∷ [] ≡ x ++ completion ∷ []) (sym same) refl
+pub last_left : (left popped rest : List (Completion (Result Called Refusal))) (completion : Completion (Result Called Refusal)) → left ≡ popped ++ completion ∷ [] → rest ≡ popped → left ≡ rest ++ completion ∷ []
+last_left left popped rest completion is same = is ∙ subst (λ (x : List (Completion (Result Called Refusal))). popped ++ completion ∷ [] ≡ x ++ completion ∷ []) (sym same) refl
 
 module _ {S : Type 0} (happens : Slab (Connection S) → Slab (Connection S) → ℕ → Type 0) where
   -- it happened under one key more, behind all before

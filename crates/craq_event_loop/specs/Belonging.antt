@@ -114,14 +114,14 @@ OneByOne happens [] old new = new ≡ old
 OneByOne {S} happens (key ∷ keys) old new = (mid : Slab (Connection S)) × Alone happens old mid key × OneByOne happens keys mid new
 
 -- the completion is delivered to the connection whose key is in its token, and no connection under another key changes
-abbrev pub DeliversCompletion : {S : Type 0} → Completion → Slab (Connection S) → Slab (Connection S) → Type 0
+abbrev pub DeliversCompletion : {S : Type 0} → Completion (Result Called Refusal) → Slab (Connection S) → Slab (Connection S) → Type 0
 DeliversCompletion completion old new = Delivers old new completion.token completion.reply × StaysVacant old new completion.token.connection × OthersStay old new completion.token.connection
 
 -- each of these completions is delivered, the last one first
-abbrev pub DeliversAll : {S : Type 0} → List Completion → Slab (Connection S) → Slab (Connection S) → Type 0
+abbrev pub DeliversAll : {S : Type 0} → List (Completion (Result Called Refusal)) → Slab (Connection S) → Slab (Connection S) → Type 0
 DeliversAll [] old new = new ≡ old
 DeliversAll {S} (completion ∷ later) old new = (mid : Slab (Connection S)) × DeliversAll later old mid × DeliversCompletion completion mid new
 
 -- the backend brought completions, and each of them is delivered
-abbrev pub DeliversBrought : {S : Type 0} → (List Completion → Type 0) → Slab (Connection S) → Slab (Connection S) → Type 0
-DeliversBrought brings old new = (completions : List Completion) × brings completions × DeliversAll completions old new
+abbrev pub DeliversBrought : {S : Type 0} → (List (Completion (Result Called Refusal)) → Type 0) → Slab (Connection S) → Slab (Connection S) → Type 0
+DeliversBrought brings old new = (completions : List (Completion (Result Called Refusal))) × brings completions × DeliversAll completions old new

@@ -1,7 +1,9 @@
 //! `LoopBackend`: the backend of an event loop, which is asked without waiting, and the source of
 //! its connections. The server of a store is one.
-ghost use Rattle.std.specs.Prelude.{Bool, List};
+ghost use Rattle.std.specs.Prelude.{Bool, List, Result};
 ghost use Rattle.craq_completions.specs.declared.queue_state.Completion.{Completion};
+ghost use Rattle.craq_names.specs.declared.refusal.Refusal.{Refusal};
+ghost use Rattle.craq_seat.specs.Calls.{Called};
 
 use crate::traffic::ClientStream;
 use craq_completions::Completion;
@@ -21,7 +23,7 @@ pub struct Arrival {
 /// The backend of an event loop.
 pub trait LoopBackend: AsyncBackend {
     /// The completions that it brought: those that were there before, and all that are there then.
-    ghost brings: { Self → List Completion → List Completion → Type 0 };
+    ghost brings: { Self → List (Completion (Result Called Refusal)) → List (Completion (Result Called Refusal)) → Type 0 };
 
     /// Its answer to the question whether the event loop may sleep.
     ghost lets_sleep: { Self → Bool → Type 0 };

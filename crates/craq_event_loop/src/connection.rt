@@ -399,6 +399,7 @@ impl<S: Socket> Connection<S> {
         ensures busy { self.new.busy ≡ self.old.busy }
     {
         if call != self.calls {
+            drop(reply);
             return;
         }
         let outcome = self.outcome_of(reply);

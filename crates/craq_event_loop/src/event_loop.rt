@@ -272,6 +272,7 @@ impl<S: Socket + Drop> Members<S> {
         let Completion { token, reply } = completion;
         let key = token.connection;
         let Some(addressee) = self.connections.get_mut(key) else {
+            drop(reply);
             return;
         };
         addressee.take_reply(self.alloc, backend, token.call, reply);

@@ -1,1 +1,2 @@
 mod Becoming
+mod Openings

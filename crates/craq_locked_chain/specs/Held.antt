@@ -11,19 +11,19 @@ use Rattle.craq_epochs.specs.Mastered.{Mastered}
 use Rattle.craq_audit.specs.declared.finding.Audit.{Audit}
 use Rattle.craq_audit.specs.Audited.{Audits}
 use Rattle.craq_seat.specs.declared.journal.BookEvent.{BookEvent}
-use Rattle.craq_seat.specs.declared.seat.Seated.{Seated}
 use Rattle.craq_seat.specs.Books.{IsBook}
 use Rattle.craq_seat.specs.Calls.{Called}
 use Rattle.craq_seat.specs.Cells.{Celled}
 use Rattle.craq_seat.specs.Kept.{IsKept}
+use Rattle.craq_running_node.specs.declared.steps.SeatedNode.{SeatedNode}
 
 -- a chain's master and the cells of its nodes, as their locks hold them
 pub record Held (C : Type 0) : Type 0 where
   pub book : Celled Mastered BookEvent
   pub cells : List (Celled C Event)
 
--- the cell that the lock of a seat holds
-abbrev pub cell_in : {C W : Type 0} → MutexGuard (Seated C W) → Celled C Event
+-- the cell that the lock of a node holds
+abbrev pub cell_in : {C : Type 0} → MutexGuard (SeatedNode C) → Celled C Event
 cell_in seat = (mutex_guard_value seat).desk.cell
 
 -- the master was opened with members, and each step of the master and of the nodes is their own:

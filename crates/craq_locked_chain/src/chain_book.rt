@@ -1,27 +1,36 @@
-//! `ChainBook`: a master's cell that a running store keeps behind a lock; used by
+//! `ChainBook`: a master's recorded cell that a running store keeps behind a lock; used by
 //! `craq_running_chain` and `craq_workers`.
-ghost use Rattle.std.specs.Prelude.{◌≡◌, ◌⊎◌, ◌↔◌, Err, IfErr, IfOk, OnOk};
-ghost use Rattle.craq_epochs.specs.Mastered as masters;
+ghost use Rattle.std.specs.Prelude.{◌≡◌, ◌⊎◌, [], None, Some, IfOk, IfSome};
+ghost use Rattle.craq_causality.specs.Causal.{IsOfStopped};
+ghost use Rattle.craq_ghost_history.specs.declared.author.Author.TheVariants as Author;
 ghost use Rattle.craq_locked_chain.specs.Membered.{CanBecome};
-ghost use Rattle.craq_model.specs.Members.{IsMembership};
-ghost use Rattle.craq_seat.specs.Books.{book_opening, first_master};
-ghost use Rattle.craq_seat.specs.Cells.{opened};
+ghost use Rattle.craq_runs.specs.Chain.{sent_in};
+ghost use Rattle.craq_seat.specs.Books.{IsBook, first_master};
+ghost use Rattle.craq_seat.specs.Calls.{receipt_in};
+ghost use Rattle.craq_seat.specs.Cells.{receipt_of};
+ghost use Rattle.craq_seat.specs.Numbered.{numbered_from};
 ghost use Rattle.craq_seat.specs.Taken.{TakesTransition};
+ghost use Rattle.craq_sending.specs.Sent.{AreSentAs};
+ghost use Rattle.craq_store_history.specs.Entries.{lines_in, members_in};
+ghost use Rattle.craq_store_parts.specs.Recorded.{IsUnmoved};
 
-use craq_names::{ChainId, NodeId, Pass, Refusal};
+use craq_ghost_history::Named;
+use craq_names::{NodeId, Pass, Refusal};
+use craq_running_node::messages_of_book;
 use craq_seat::{BookCell, BookEvent, Receipt};
+use craq_store_parts::{JoinedNode, Messages, RecordedBook, StoreHistory, StoreToken, StoreWriter};
 use std::alloc::Global;
 use std::marker::Model;
 
-/// A master's cell, with or without a journal, whose master came from the opened one by steps of a
-/// master only. So a thread that takes its lock finds a membership of the chain and the members of
-/// the cell's opening.
+/// A master's cell, with or without a journal, whose steps are in the store's history. Its master
+/// came from the opened one by steps of a master only. So a thread that takes its lock finds a
+/// membership of the chain and the members of the cell's opening.
 #[derive(Drop)]
-pub struct ChainBook {
-    cell: BookCell,
+pub struct ChainBook<N: Named> {
+    book: RecordedBook<N>,
 }
 
-impl Model for ChainBook {
+impl<N: Named> Model for ChainBook<N> {
     ghost use Rattle.craq_epochs.specs.Mastered.{Mastered};
     ghost use Rattle.craq_locked_chain.specs.Membered.{CanBecome};
     ghost use Rattle.craq_seat.specs.declared.journal.BookEvent.{BookEvent};
@@ -30,35 +39,86 @@ impl Model for ChainBook {
 
     ghost Value = { Celled Mastered BookEvent };
 
-    ghost view = { λ b. b.cell };
+    ghost view = { λ b. b.book };
 
-    ghost invariant = { λ b. CanBecome (first_master b.cell.opening) b.cell.inside };
+    ghost invariant = { λ b. CanBecome (first_master b.book.opening) b.book.inside };
 }
 
-impl ChainBook {
-    /// Opens the cell of a chain's master before any step, as `BookCell::open` does.
+impl<N: Named> ChainBook<N> {
+    /// Opens a chain in the store's history, with the cell of its master before any step. Returns a
+    /// token that has seen the opening.
     pub fn open(
-        alloc: Global,
-        chain: ChainId,
-        members: &[NodeId],
-        journal: bool,
-    ) -> Result<Self, Refusal>
-        ensures ok { IfOk result (λ b. b ≡ opened (book_opening chain members.now) journal (masters.opened_master chain members.now)) }
-        ensures membership { OnOk result (IsMembership members.now) }
-        ensures bad { (result ≡ Err Refusal.BadConfig) ↔ ¬ (IsMembership members.now) }
-        ensures err { IfErr result (λ e. (e ≡ Refusal.BadConfig) ⊎ (e ≡ Refusal.Memory)) }
+        history: &StoreHistory<N>,
+        cell: BookCell,
+        writer: StoreWriter<N>,
+    ) -> (Self, StoreToken<N>)
+        requires opened { IsUnmoved cell }
+        requires author { writer.author ≡ Author.Node cell.opening.name.chain 0 }
+        requires none { writer.seen ≡ [] }
+        ensures cell { result.0 ≡ cell }
+        ensures token { members_in cell.opening.name.chain result.1 ≡ Some cell.inside.members }
     {
-        match BookCell::open(alloc, chain, members, journal) {
-            Ok(cell) => Ok(ChainBook { cell }),
-            Err(refusal) => Err(refusal),
+        let mut book = RecordedBook::open(history, cell, writer);
+        let token = book.token(history);
+        (ChainBook { book }, token)
+    }
+
+    /// Takes one step of the master, exactly as `BookCell::take` does, and adds it to the history,
+    /// after all that the token has seen.
+    pub fn take(
+        &mut self,
+        alloc: Global,
+        history: &StoreHistory<N>,
+        event: BookEvent,
+        token: StoreToken<N>,
+    ) -> Result<Receipt, Refusal>
+        requires { IsOfStopped (lines_in self.old.opening.name.chain token) event }
+        ensures step { TakesTransition self.old self.new event 0 result }
+        ensures kept { IsBook self.new }
+        ensures opening { self.new.opening ≡ self.old.opening }
+    {
+        self.book.take(alloc, history, event, Pass::start(), token)
+    }
+
+    /// Lets a node join, exactly as `BookCell::take` does. Returns also the node, with a token of its
+    /// join.
+    pub fn join(
+        &mut self,
+        alloc: Global,
+        history: &StoreHistory<N>,
+        node: NodeId,
+    ) -> Result<(Receipt, JoinedNode<N>), Refusal>
+        ensures step { TakesTransition self.old self.new (BookEvent.Join node) 0 (receipt_in result) }
+        ensures kept { IsBook self.new }
+        ensures opening { self.new.opening ≡ self.old.opening }
+        ensures joined { IfOk result (λ r. r.1 ≡ record { chain = self.old.opening.name.chain; node = node }) }
+    {
+        self.book.join(alloc, history, node)
+    }
+
+    /// Takes the step of a tick, and returns what it sends, or `None` if the step is refused.
+    pub fn tick(&mut self, alloc: Global, history: &StoreHistory<N>) -> Option<Messages<N>> {
+        let token = self.book.token(history);
+        match self.take(alloc, history, BookEvent::Tick, token) {
+            Ok(_) => Some(self.messages(alloc, history)),
+            Err(_) => None,
         }
     }
 
-    /// Takes one step of the master, exactly as `BookCell::take` does.
-    pub fn take(&mut self, alloc: Global, event: BookEvent, pass: Pass) -> Result<Receipt, Refusal>
-        ensures { TakesTransition self.old self.new event pass result }
+    /// Encodes what the master's last step sends. Out of memory, it is lost.
+    pub fn messages(&mut self, alloc: Global, history: &StoreHistory<N>) -> Messages<N>
+        ensures sent { IfSome self.old.last (λ s. (result.sent ≡ []) ⊎ AreSentAs result.sent (numbered_from 0 (receipt_of self.old) (sent_in s.outs))) }
+        ensures none { self.old.last ≡ None → result.sent ≡ [] }
+        ensures same { self.new ≡ self.old }
     {
-        self.cell.take(alloc, event, pass)
+        messages_of_book(alloc, history, &mut self.book)
+    }
+
+    /// Returns a token that has seen all steps of the master.
+    pub fn token(&mut self, history: &StoreHistory<N>) -> StoreToken<N>
+        ensures { self.new ≡ self.old }
+    {
+        self.book.token(history)
     }
 
     /// Returns the master's cell. Never allocates.
@@ -66,6 +126,6 @@ impl ChainBook {
         ensures cell { result.now ≡ self.now }
         ensures becomes { CanBecome (first_master self.now.opening) self.now.inside }
     {
-        &self.cell
+        self.book.cell()
     }
 }

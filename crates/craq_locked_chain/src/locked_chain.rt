@@ -8,9 +8,11 @@ ghost use Rattle.craq_locked_chain.specs.Held.{AreOwn, cell_in};
 ghost use Rattle.craq_seat.specs.Kept.{IsKept};
 
 use craq_audit::{Audit, audit};
+use craq_ghost_history::Named;
 use craq_names::Refusal;
 use craq_node::Core;
-use craq_seat::{BookCell, CallReceipt, Cell, Seated};
+use craq_running_node::SeatedNode;
+use craq_seat::{BookCell, CallReceipt, Cell};
 use std::alloc::{AllocError, Global};
 use std::marker::Model;
 use std::sync::MutexGuard;
@@ -19,15 +21,15 @@ use std::sync::MutexGuard;
 /// its lock. While this value exists, they take no step. A contract sees these cells, and that each
 /// of their steps is their own. No contract can say which cell is behind a free lock.
 #[derive(Drop)]
-pub struct LockedChain<'b, 's, C: Core, W: Drop = ()> {
+pub struct LockedChain<'b, 's, C: Core + Named> {
     alloc: Global,
     book: &'b BookCell,
-    seats: Vec<MutexGuard<'s, Seated<C, W>>>,
+    seats: Vec<MutexGuard<'s, SeatedNode<C>>>,
     /// Room for the list of the cells, for an audit.
     room: Vec<&'s Cell<C>>,
 }
 
-impl<'b, 's, C: Core, W: Drop> Model for LockedChain<'b, 's, C, W> {
+impl<'b, 's, C: Core + Named> Model for LockedChain<'b, 's, C> {
     ghost use Rattle.std.specs.Prelude.{◌≡◌, ◌≤◌, [], length, map, vec_capacity};
     ghost use Rattle.craq_locked_chain.specs.Held.{AreOwn, Held, cell_in};
 
@@ -39,7 +41,7 @@ impl<'b, 's, C: Core, W: Drop> Model for LockedChain<'b, 's, C, W> {
 }
 
 /// States that the cells behind held locks keep the invariants of their type. Does nothing.
-fn keep_seats<C: Core, W: Drop>(seats: &[MutexGuard<'_, Seated<C, W>>])
+fn keep_seats<C: Core + Named>(seats: &[MutexGuard<'_, SeatedNode<C>>])
     ensures { AllByRecursion (IsKept C.represents) (map cell_in seats.now) }
 {
     for seat in seats {
@@ -49,9 +51,9 @@ fn keep_seats<C: Core, W: Drop>(seats: &[MutexGuard<'_, Seated<C, W>>])
 
 /// Lists the cells behind these held locks, in the order of their seats. The list has room for
 /// them, so it never allocates.
-fn cells_in<'a, 's, C: Core, W: Drop>(
+fn cells_in<'a, 's, C: Core + Named>(
     room: Vec<&'a Cell<C>>,
-    seats: &'a [MutexGuard<'s, Seated<C, W>>],
+    seats: &'a [MutexGuard<'s, SeatedNode<C>>],
 ) -> Vec<&'a Cell<C>>
     requires empty { room.items ≡ [] }
     requires room { length seats.now ≤ vec_capacity room }
@@ -64,14 +66,14 @@ fn cells_in<'a, 's, C: Core, W: Drop>(
     cells
 }
 
-impl<'b, 's, C: Core, W: Drop> LockedChain<'b, 's, C, W> {
+impl<'b, 's, C: Core + Named> LockedChain<'b, 's, C> {
     /// Makes the value of a master's cell and those behind these locks, in the order of their
     /// seats, with room for their audit. Fails only when out of memory; the locks of the nodes are
     /// then released.
     pub fn new(
         alloc: Global,
         book: &'b BookCell,
-        seats: Vec<MutexGuard<'s, Seated<C, W>>>,
+        seats: Vec<MutexGuard<'s, SeatedNode<C>>>,
     ) -> Result<Self, AllocError>
         ensures book { IfOk result (λ held. held.book ≡ book.now) }
         ensures cells { IfOk result (λ held. held.cells ≡ map cell_in seats.entry.items) }

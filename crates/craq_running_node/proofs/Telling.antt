@@ -1,10 +1,11 @@
 -- The replies of callers while outcomes go to them under their tickets, one after another.
 use Rattle.std.proofs.Common.{◌≡◌, ◌≤◌, ◌+◌, ◌∙◌, ◌++◌, length, length-append, append_assoc, append-nil, true≢false, inl, inr, refl, sym, ap, subst, ℕ, Bool, true, false, List, [], ◌∷◌, Option, Some, None, option_map, Result, Ok, Err, IfSome, arith, filter}
 use Rattle.std.proofs.lemmas.Bool.{eqb-true}
-use Rattle.std.specs.Prelude.{Vec}
+use Rattle.std.specs.Prelude.{IsSome, Vec}
 use Rattle.std.specs.List.{last_or}
 use Rattle.std.specs.declared.alloc.AllocError.{AllocError}
 use Rattle.std.specs.declared.alloc.Global.{Global}
+use Rattle.craq_names.specs.declared.name.NodeName.{NodeName}
 use Rattle.craq_names.specs.declared.refusal.Refusal.{Refusal}
 use Rattle.craq_names.specs.declared.refusal.Refusal.TheVariants as refusals
 use Rattle.craq_completions.specs.declared.token.Token.{Token}
@@ -14,9 +15,11 @@ use Rattle.craq_model.specs.Plain.{Plain}
 use Rattle.craq_seat.specs.Calls.{Called, CallsOf, Desked}
 use Rattle.craq_seat.specs.Cells.{receipt_of}
 use Rattle.craq_seat.specs.declared.journal.Receipt.{Receipt}
-use Rattle.craq_seat.specs.declared.seat.Seated.{Seated}
 use Rattle.craq_seat.specs.declared.seat.Caller.{Caller}
-use Rattle.craq_running_node.specs.Replies.{AreSomeOf, HasInHand, IsReplyTo, Keeps, PendingReplies, Reply, caller_under, is_own, others_of, own_receipt, replies_to, reply_to, said_by, said_to, Steps, TellsCallers, Waits, waiting_after, without_caller}
+use Rattle.craq_store_history.specs.declared.entry.CallId.{CallId}
+use Rattle.craq_store_parts.specs.Recorded.{Accepted, accepted_under}
+use Rattle.craq_running_node.specs.declared.steps.SeatedNode.{SeatedNode}
+use Rattle.craq_running_node.specs.Replies.{AreSomeOf, HasInHand, IsReplyTo, Keeps, PendingReplies, Reply, caller_under, is_own, others_of, own_receipt, replies_to, reply_to, said_by, said_to, Steps, TellsCallers, Waits, ticket_in, ticket_of, waiting_after, without_caller}
 
 abbrev pub Outcomes : Type 0
 Outcomes = List (ℕ × Result Called Refusal)
@@ -178,7 +181,7 @@ pub refused : {C : Type 0} (represents : C → Plain → Type 0) (old new : Desk
 refused represents old new event shown pass e alike step = subst (λ (p : ℕ). Steps represents old new event p (Err e)) alike step
 
 -- so the callers of a step got their replies
-pub reported_callers : {C : Type 0} (represents : C → Plain → Type 0) (old : Seated C Token) (took new : Desked C) (callers : List (Caller Token)) (event : Event) (receipt : Receipt) (shown pass : ℕ) (ticket : Option ℕ) (calls : Result (Vec Called Global) AllocError) (before after : PendingReplies)
+pub reported_callers : {C : Type 0} (represents : C → Plain → Type 0) (old : SeatedNode C) (took new : Desked C) (callers : List (Caller Token)) (event : Event) (receipt : Receipt) (shown pass : ℕ) (ticket : Option ℕ) (calls : Result (Vec Called Global) AllocError) (before after : PendingReplies)
     → new ≡ took → receipt ≡ receipt_of took.cell → shown ≡ pass → Steps represents old.desk took event shown (Ok receipt)
     → IfSome took.cell.last (λ (step : Step). CallsOf old.desk.waiting took.waiting event receipt shown step calls)
     → callers ≡ waiting_after old.callers.items (said_by calls took.cell.last ticket)
@@ -211,3 +214,12 @@ pub expects : (token : Token) (ticket : Option ℕ) (said hand : Option (Result 
     → said ≡ None → (hand ≡ None → Waits token ticket old new before after) → IfSome hand (λ (o : Result Called Refusal). (o ≡ Err refusals.Memory) × (new ≡ old) × (after ≡ before)) → HasInHand token ticket said hand old new before after
 expects token ticket said hand old new before after is waits reported =
     subst (λ (r : Option (Result Called Refusal)). HasInHand token ticket r hand old new before after) (sym is) (expects_now token ticket hand old new before after waits reported)
+
+under_ticket : (name : NodeName) (call : CallId) (ticket : Option ℕ) → ticket_in (accepted_under name (Some call) ticket) ≡ ticket
+under_ticket name call None = refl
+under_ticket name call (Some ticket) = refl
+
+-- the call that a step accepted has the step's ticket
+pub ticket_accepted : (name : NodeName) (call : CallId) (last : Option Step) (accepted : Option Accepted) → IsSome last → IfSome last (λ (step : Step). accepted ≡ accepted_under name (Some call) step.ticket) → ticket_in accepted ≡ ticket_of last
+ticket_accepted name call None accepted moved is = absurd cc
+ticket_accepted name call (Some step) accepted moved is = ap ticket_in is ∙ under_ticket name call step.ticket

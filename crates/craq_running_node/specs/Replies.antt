@@ -1,9 +1,10 @@
 -- The step that a node takes, which of its callers get which reply, and which callers wait on.
-use Rattle.std.specs.Prelude.{◌≡◌, ◌⊎◌, ◌==◌, ◌++◌, ℕ, Bool, false, not, List, [], ◌∷◌, filter, find, flat_map, map, Option, Some, None, option_map, Result, Ok, Err, IfSome, Vec}
+use Rattle.std.specs.Prelude.{◌≡◌, ◌≢◌, ◌⊎◌, ◌==◌, ◌++◌, ℕ, Bool, false, not, List, [], ◌∷◌, filter, find, flat_map, map, Option, Some, None, option_map, Result, Ok, Err, IfSome, Vec}
 use Rattle.std.specs.List.{last_or}
 use Rattle.std.specs.Set.{remove_key}
 use Rattle.std.specs.declared.alloc.AllocError.{AllocError}
 use Rattle.std.specs.declared.alloc.Global.{Global}
+use Rattle.craq_names.specs.declared.name.NodeName.{NodeName}
 use Rattle.craq_names.specs.declared.refusal.Refusal.{Refusal}
 use Rattle.craq_names.specs.declared.refusal.Refusal.TheVariants as refusals
 use Rattle.craq_completions.specs.declared.token.Token.{Token}
@@ -20,12 +21,17 @@ use Rattle.craq_seat.specs.Cells.{receipt_of, with_inside}
 use Rattle.craq_seat.specs.Kept.{IsKept}
 use Rattle.craq_seat.specs.Taken.{TakesEvent}
 use Rattle.craq_seat.specs.declared.seat.Caller.{Caller}
-use Rattle.craq_seat.specs.declared.seat.Seated.{Seated}
+use Rattle.craq_store_parts.specs.Recorded.{Accepted}
+use Rattle.craq_running_node.specs.declared.steps.SeatedNode.{SeatedNode}
 
 -- a caller: the token of its completion, and the ticket of its request once a node has accepted it
 pub record Asked : Type 0 where
   pub ticket : Option ℕ
   pub token : Token
+
+-- the ticket of a call that was accepted
+abbrev pub ticket_in : Option Accepted → Option ℕ
+ticket_in accepted = option_map (λ (a : Accepted). a.ticket) accepted
 
 -- a reply on its way
 pub record Reply : Type 0 where
@@ -155,13 +161,15 @@ Steps represents old new event pass result =
 abbrev pub RefusesStep : {C : Type 0} → (C → Plain → Type 0) → Desked C → Desked C → Event → ℕ → Refusal → Type 0
 RefusesStep represents old new event pass e = Steps represents old new event pass (Err e) × (new.waiting ≡ old.waiting)
 
--- a desk refused a request and is as it was: there was no room for the caller, or the cell refused the step
-abbrev pub RefusesAsked : {C : Type 0} → (C → Plain → Type 0) → Desked C → Desked C → Ask → ℕ → Refusal → Type 0
-RefusesAsked represents old new ask pass e = ((e ≡ refusals.Memory) × (new ≡ old)) ⊎ RefusesStep represents old new (events.Ask ask) pass e
+-- a desk refused a request and is as it was: there was no room for the caller, or the request is to another node; or the cell refused
+-- the step
+abbrev pub RefusesAsked : {C : Type 0} → (C → Plain → Type 0) → Desked C → Desked C → NodeName → Ask → ℕ → Refusal → Type 0
+RefusesAsked represents old new name ask pass e =
+    ((e ≡ refusals.Memory) × (new ≡ old)) ⊎ ((e ≡ refusals.WrongNode) × (name ≢ old.cell.opening.name) × (new ≡ old)) ⊎ RefusesStep represents old new (events.Ask ask) pass e
 
 -- the step of this event was taken, and accepted a request under this ticket or none. It gave the receipts of the desk's calls, or found
 -- no memory for them. The callers that wait get these outcomes, except the caller of this ticket, which does not wait yet
-abbrev pub TellsCallers : {C : Type 0} → (C → Plain → Type 0) → Seated C Token → Desked C → List (Caller Token) → Event → ℕ → Option ℕ → Result (Vec Called Global) AllocError → PendingReplies → PendingReplies → Type 0
+abbrev pub TellsCallers : {C : Type 0} → (C → Plain → Type 0) → SeatedNode C → Desked C → List (Caller Token) → Event → ℕ → Option ℕ → Result (Vec Called Global) AllocError → PendingReplies → PendingReplies → Type 0
 TellsCallers represents old desk callers event pass ticket calls before after =
     Steps represents old.desk desk event pass (Ok (receipt_of desk.cell))
     × IfSome desk.cell.last (λ (step : Step). CallsOf old.desk.waiting desk.waiting event (receipt_of desk.cell) pass step calls)
@@ -170,40 +178,40 @@ TellsCallers represents old desk callers event pass ticket calls before after =
 
 -- the step of an event that is no request was taken, and the callers that waited get its replies; or it was refused, nobody gets a
 -- reply, and all wait on
-abbrev pub ReactsTo : {C : Type 0} → (C → Plain → Type 0) → Seated C Token → Seated C Token → Event → PendingReplies → PendingReplies → Type 0
+abbrev pub ReactsTo : {C : Type 0} → (C → Plain → Type 0) → SeatedNode C → SeatedNode C → Event → PendingReplies → PendingReplies → Type 0
 ReactsTo represents old new event before after =
     ((calls : Result (Vec Called Global) AllocError) × TellsCallers represents old new.desk new.callers.items event 0 None calls before after)
     ⊎ ((e : Refusal) × RefusesStep represents old.desk new.desk event 0 e × (new.callers.items ≡ old.callers.items) × (after ≡ before))
 
 -- the step of a queued request was taken: the callers that waited get its replies, and this one gets a reply or waits
-abbrev pub TakesQueued : {C : Type 0} → (C → Plain → Type 0) → Seated C Token → Seated C Token → Ask → ℕ → Token → PendingReplies → PendingReplies → Type 0
+abbrev pub TakesQueued : {C : Type 0} → (C → Plain → Type 0) → SeatedNode C → SeatedNode C → Ask → ℕ → Token → PendingReplies → PendingReplies → Type 0
 TakesQueued represents old new ask pass token before after =
     (calls : Result (Vec Called Global) AllocError) × (callers : List (Caller Token)) × (mid : PendingReplies)
     × TellsCallers represents old new.desk callers (events.Ask ask) pass (ticket_of new.desk.cell.last) calls before mid
     × Settles token (ticket_of new.desk.cell.last) (said_to (ticket_of new.desk.cell.last) calls) callers new.callers.items mid after
 
 -- a queued request was refused: the desk is as it was, this caller alone gets a reply, and the others wait on
-abbrev pub RefusesQueued : {C : Type 0} → (C → Plain → Type 0) → Seated C Token → Seated C Token → Ask → ℕ → Token → PendingReplies → PendingReplies → Type 0
-RefusesQueued represents old new ask pass token before after =
-    (e : Refusal) × RefusesAsked represents old.desk new.desk ask pass e
+abbrev pub RefusesQueued : {C : Type 0} → (C → Plain → Type 0) → SeatedNode C → SeatedNode C → NodeName → Ask → ℕ → Token → PendingReplies → PendingReplies → Type 0
+RefusesQueued represents old new name ask pass token before after =
+    (e : Refusal) × RefusesAsked represents old.desk new.desk name ask pass e
     × IsReported (record { ticket = None; token = token }) (Err e) old.callers.items new.callers.items before after
 
 -- the store is closed: no step was taken, this caller alone is refused, and the others wait on
-abbrev pub ClosesQueued : {C : Type 0} → Seated C Token → Seated C Token → Token → PendingReplies → PendingReplies → Type 0
+abbrev pub ClosesQueued : {C : Type 0} → SeatedNode C → SeatedNode C → Token → PendingReplies → PendingReplies → Type 0
 ClosesQueued old new token before after = (new ≡ old) × Keeps before (record { to = record { ticket = None; token = token }; outcome = Err refusals.Closed } ∷ []) after
 
 -- a caller took the step of its own request: the callers that waited get its replies, and this one has its reply in hand or waits
-abbrev pub TakesOwn : {C : Type 0} → (C → Plain → Type 0) → Seated C Token → Seated C Token → Ask → ℕ → Token → Option (Result Called Refusal) → PendingReplies → PendingReplies → Type 0
+abbrev pub TakesOwn : {C : Type 0} → (C → Plain → Type 0) → SeatedNode C → SeatedNode C → Ask → ℕ → Token → Option (Result Called Refusal) → PendingReplies → PendingReplies → Type 0
 TakesOwn represents old new ask pass token hand before after =
     (calls : Result (Vec Called Global) AllocError) × (callers : List (Caller Token)) × (mid : PendingReplies)
     × TellsCallers represents old new.desk callers (events.Ask ask) pass (ticket_of new.desk.cell.last) calls before mid
     × HasInHand token (ticket_of new.desk.cell.last) (said_to (ticket_of new.desk.cell.last) calls) hand callers new.callers.items mid after
 
 -- its request was refused: the desk is as it was, this caller has the refusal in hand, nobody gets a reply, and the others wait on
-abbrev pub RefusesOwn : {C : Type 0} → (C → Plain → Type 0) → Seated C Token → Seated C Token → Ask → ℕ → Option (Result Called Refusal) → PendingReplies → PendingReplies → Type 0
-RefusesOwn represents old new ask pass hand before after =
-    (e : Refusal) × RefusesAsked represents old.desk new.desk ask pass e × (hand ≡ Some (Err e)) × (new.callers.items ≡ old.callers.items) × (after ≡ before)
+abbrev pub RefusesOwn : {C : Type 0} → (C → Plain → Type 0) → SeatedNode C → SeatedNode C → NodeName → Ask → ℕ → Option (Result Called Refusal) → PendingReplies → PendingReplies → Type 0
+RefusesOwn represents old new name ask pass hand before after =
+    (e : Refusal) × RefusesAsked represents old.desk new.desk name ask pass e × (hand ≡ Some (Err e)) × (new.callers.items ≡ old.callers.items) × (after ≡ before)
 
 -- the store is closed: no step was taken, this caller has that refusal in hand, nobody gets a reply, and the others wait on
-abbrev pub ClosesOwn : {C : Type 0} → Seated C Token → Seated C Token → Option (Result Called Refusal) → PendingReplies → PendingReplies → Type 0
+abbrev pub ClosesOwn : {C : Type 0} → SeatedNode C → SeatedNode C → Option (Result Called Refusal) → PendingReplies → PendingReplies → Type 0
 ClosesOwn old new hand before after = (new ≡ old) × (hand ≡ Some (Err refusals.Closed)) × (after ≡ before)

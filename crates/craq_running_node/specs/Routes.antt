@@ -7,11 +7,11 @@ use Rattle.craq_running_node.specs.declared.node.Waiting.TheVariants as waits
 use Rattle.craq_running_node.specs.declared.node.Route.{Route}
 
 -- a message waits as it was brought; of each other kind at most one item waits
-abbrev pub WaitsAs : Delivery → Option Waiting → Type 0
-WaitsAs (brings.Message bytes) waiting = waiting ≡ Some (waits.Message bytes)
-WaitsAs (brings.Ack bytes) waiting = IfSome waiting (λ (w : Waiting). w ≡ waits.Ack)
-WaitsAs (brings.Blank bytes) waiting = IfSome waiting (λ (w : Waiting). w ≡ waits.Blank)
-WaitsAs brings.Tick waiting = IfSome waiting (λ (w : Waiting). w ≡ waits.Tick)
+abbrev pub WaitsAs : {N : Type 0} → Delivery N → Option (Waiting N) → Type 0
+WaitsAs (brings.Message wire) waiting = waiting ≡ Some (waits.Message wire)
+WaitsAs {N} (brings.Ack wire) waiting = IfSome waiting (λ (w : Waiting N). w ≡ waits.Ack)
+WaitsAs {N} (brings.Blank wire) waiting = IfSome waiting (λ (w : Waiting N). w ≡ waits.Blank)
+WaitsAs {N} brings.Tick waiting = IfSome waiting (λ (w : Waiting N). w ≡ waits.Tick)
 
 -- the senders of the node are dropped
 abbrev pub shut : {C : Type 0} → Route C → Route C

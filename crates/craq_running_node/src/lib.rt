@@ -6,16 +6,19 @@
 
 mod callers;
 mod gate;
+mod losses;
 mod node;
 mod pending;
 mod replies;
 mod steps;
 
+pub use callers::{Outcome, PendingCaller};
 pub use gate::{Gate, OpenGate, Work};
+pub use losses::Losses;
 pub use node::{Delivery, Entrances, Queues, Route, RunningNode, Waiting};
 pub use pending::Pending;
 pub use replies::{Replies, refuse_callers};
 pub use steps::{
-    AskingCaller, OwnAsk, QueuedAsk, SeatedNode, dismiss, entries_by_node, lone_ack_of,
-    lone_entry_of, refuse_asked, sent_by_book, sent_by_node, take_event, take_own, take_queued,
+    Arrival, AskingCaller, OwnAsk, QueuedAsk, SeatedNode, dismiss, entries_of, lone_entry_of,
+    messages_of, messages_of_book, owed_by, refuse_asked, take_event, take_own, take_queued,
 };

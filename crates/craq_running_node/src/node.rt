@@ -1,57 +1,55 @@
 //! `RunningNode`: a node as its workers and callers share it: its locked seat, its queues and the
 //! state of its life; and `Route`, the routing entry of a node.
-ghost use Rattle.std.specs.Prelude.{◌≡◌, ◌⊎◌, None, Some, if◌then◌else◌};
-ghost use Rattle.craq_model.specs.Plain.{Plain};
-ghost use Rattle.craq_seat.specs.Cells.{receipt_of};
+ghost use Rattle.std.specs.Prelude.{◌≡◌, ◌⊎◌};
 ghost use Rattle.craq_running_node.specs.Routes.{WaitsAs, retired};
 
+use crate::losses::Losses;
 use crate::pending::Pending;
-use crate::steps::QueuedAsk;
-use bytes::Bytes;
-use craq_completions::CompletionSender;
-use craq_epochs::StopReceipt;
+use crate::steps::{QueuedAsk, SeatedNode};
+use craq_ghost_history::Named;
 use craq_names::{NodeId, NodeName};
 use craq_node::Core;
-use craq_seat::{Cell, Desk, Receipt, Seat};
+use craq_seat::TicketQueue;
 use craq_sending::Kind;
+use craq_store_parts::{RecordedDesk, StoppedNode, StoreHistory, Wire};
 use crossbeam_channel::{Receiver, SendError, Sender};
 use std::alloc::Global;
 use std::sync::atomic::{AtomicBool, AtomicU64, Ordering};
-use std::sync::{Arc, Wait};
+use std::sync::{Arc, Mutex, MutexGuard, OnceLock, Wait};
 
 /// An item brought to a node.
 #[derive(Drop)]
-pub enum Delivery {
+pub enum Delivery<N: Named> {
     /// An encoded message.
-    Message(Bytes),
+    Message(Wire<N>),
     /// An encoded acknowledgement.
-    Ack(Bytes),
+    Ack(Wire<N>),
     /// An encoded message that says that its sender is not ready.
-    Blank(Bytes),
+    Blank(Wire<N>),
     /// The node has to send again what its neighbours may lack.
     Tick,
 }
 
-impl Delivery {
+impl<N: Named> Delivery<N> {
     /// Makes the item of an encoded message of this class.
-    pub fn of(kind: Kind, bytes: Bytes) -> Self
-        ensures ack { kind ≡ Kind.Ack → result ≡ Delivery.Ack bytes }
-        ensures blank { kind ≡ Kind.Blank → result ≡ Delivery.Blank bytes }
-        ensures message { (kind ≡ Kind.Entry) ⊎ (kind ≡ Kind.Other) → result ≡ Delivery.Message bytes }
+    pub fn of(kind: Kind, wire: Wire<N>) -> Self
+        ensures ack { kind ≡ Kind.Ack → result ≡ Delivery.Ack wire }
+        ensures blank { kind ≡ Kind.Blank → result ≡ Delivery.Blank wire }
+        ensures message { (kind ≡ Kind.Entry) ⊎ (kind ≡ Kind.Other) → result ≡ Delivery.Message wire }
     {
         match kind {
-            Kind::Ack => Delivery::Ack(bytes),
-            Kind::Blank => Delivery::Blank(bytes),
-            Kind::Entry | Kind::Other => Delivery::Message(bytes),
+            Kind::Ack => Delivery::Ack(wire),
+            Kind::Blank => Delivery::Blank(wire),
+            Kind::Entry | Kind::Other => Delivery::Message(wire),
         }
     }
 }
 
 /// An item in the queue of a node's deliveries.
 #[derive(Drop)]
-pub enum Waiting {
+pub enum Waiting<N: Named> {
     /// An encoded message.
-    Message(Bytes),
+    Message(Wire<N>),
     /// An acknowledgement: the last one, which the node keeps beside the queue.
     Ack,
     /// The word of a node that is not ready: the last one, which the node keeps beside the queue.
@@ -62,35 +60,37 @@ pub enum Waiting {
 
 /// The queues of a node: requests, and what was brought.
 #[derive(Drop)]
-pub struct Queues {
-    pub asks: Receiver<QueuedAsk>,
-    pub links: Receiver<Waiting>,
+pub struct Queues<C: Core + Named> {
+    pub asks: Receiver<QueuedAsk<C>>,
+    pub links: Receiver<Waiting<C>>,
 }
 
 /// A node that runs: its locked seat, its queues, and the state of its life.
 #[derive(Drop)]
-pub struct RunningNode<C: Core> {
+pub struct RunningNode<C: Core + Named> {
     pub name: NodeName,
-    pub seat: Seat<C, CompletionSender>,
-    pub queues: Queues,
+    /// It is set once: a node that joins is made before the step that lets it join.
+    seat: OnceLock<Mutex<SeatedNode<C>>>,
+    pub queues: Queues<C>,
     /// The number of pieces of work on requests that have begun.
     pieces: AtomicU64,
     halted: AtomicBool,
     closed: AtomicBool,
     /// A tick waits.
     ticks: AtomicBool,
-    pub ack: Pending,
-    pub blank: Pending,
+    pub ack: Pending<C>,
+    pub blank: Pending<C>,
+    pub losses: Losses,
 }
 
-impl<C: Core> RunningNode<C> {
-    /// Makes a node that runs and has nothing to do yet. Takes no memory.
-    pub fn new(alloc: Global, name: NodeName, desk: Desk<C>, queues: Queues) -> Self
+impl<C: Core + Named> RunningNode<C> {
+    /// Makes a node that runs once it is opened (`open`) and has nothing to do yet. Takes no memory.
+    pub fn new(name: NodeName, queues: Queues<C>) -> Self
         ensures { result.name ≡ name }
     {
         RunningNode {
             name,
-            seat: Seat::new(alloc, desk),
+            seat: OnceLock::new(),
             queues,
             pieces: AtomicU64::new(0),
             halted: AtomicBool::new(false),
@@ -98,14 +98,36 @@ impl<C: Core> RunningNode<C> {
             ticks: AtomicBool::new(false),
             ack: Pending::new(),
             blank: Pending::new(),
+            losses: Losses::new(),
         }
     }
 
-    /// Returns the proof that the node has stopped and the receipt of the step in which it did, or
-    /// `None` if it runs.
-    pub fn stopped<R: Wait>(&self, rt: &R) -> Option<(StopReceipt, Receipt)> {
-        let seated = self.seat.lock(rt);
-        stop_of(seated.desk.cell())
+    /// Opens the node with its desk. Only the first desk counts. Takes no memory.
+    pub fn open<R: Wait>(&self, rt: &R, alloc: Global, desk: RecordedDesk<C>) {
+        let seated = SeatedNode {
+            desk,
+            callers: TicketQueue::new(alloc),
+        };
+        let _ = self.seat.set(rt, Mutex::new(seated));
+    }
+
+    /// Locks the node until the guard is dropped; waits while another thread holds the lock, and
+    /// until the node is open. Never allocates.
+    pub fn lock<R: Wait>(&self, rt: &R) -> MutexGuard<'_, SeatedNode<C>> {
+        self.seat.wait(rt).lock(rt)
+    }
+
+    /// Locks the node until the guard is dropped; returns `None` if another thread holds the lock
+    /// now, or the node is not open. Never allocates.
+    pub fn try_lock(&self) -> Option<MutexGuard<'_, SeatedNode<C>>> {
+        self.seat.get()?.try_lock()
+    }
+
+    /// Returns the proof that the node has stopped, with the receipt of the step in which it did,
+    /// or `None` if it runs.
+    pub fn stopped<R: Wait>(&self, rt: &R, history: &StoreHistory<C>) -> Option<StoppedNode<C>> {
+        let mut seated = self.lock(rt);
+        seated.desk.stopped(history)
     }
 
     /// Returns the count of the next piece of work on requests.
@@ -137,13 +159,13 @@ impl<C: Core> RunningNode<C> {
     /// Returns the queue item for what is brought, or `None` if one waits already that stands for
     /// it: at most one tick, one acknowledgement and one word of a node that is not ready wait at a
     /// time.
-    fn admit<R: Wait>(&self, rt: &R, brought: Delivery) -> Option<Waiting>
+    fn admit<R: Wait>(&self, rt: &R, brought: Delivery<C>) -> Option<Waiting<C>>
         ensures { WaitsAs brought result }
     {
         match brought {
-            Delivery::Message(bytes) => Some(Waiting::Message(bytes)),
-            Delivery::Ack(bytes) => self.ack.put(rt, bytes).then_some(Waiting::Ack),
-            Delivery::Blank(bytes) => self.blank.put(rt, bytes).then_some(Waiting::Blank),
+            Delivery::Message(wire) => Some(Waiting::Message(wire)),
+            Delivery::Ack(wire) => self.ack.put(rt, wire).then_some(Waiting::Ack),
+            Delivery::Blank(wire) => self.blank.put(rt, wire).then_some(Waiting::Blank),
             Delivery::Tick => (!self.ticks.swap(true, Ordering::SeqCst)).then_some(Waiting::Tick),
         }
     }
@@ -154,13 +176,21 @@ impl<C: Core> RunningNode<C> {
     }
 
     /// Lets another item of this kind wait: this one was lost on its way to the queue.
-    fn lose(&self, waiting: Waiting) {
+    fn lose(&self, waiting: Waiting<C>) {
         match waiting {
             Waiting::Message(_) => (),
             Waiting::Ack => self.ack.open(),
             Waiting::Blank => self.blank.open(),
             Waiting::Tick => self.tick_taken(),
         }
+    }
+
+    /// Loses an item as `lose` does, because memory ended. A message counts, a tick does not.
+    fn lose_for_memory(&self, waiting: Waiting<C>) {
+        if !matches!(&waiting, Waiting::Tick) {
+            self.losses.add();
+        }
+        self.lose(waiting);
     }
 
     /// Returns whether anything waits at the node.
@@ -171,9 +201,9 @@ impl<C: Core> RunningNode<C> {
 
 /// The senders of a node's queues.
 #[derive(Drop)]
-pub struct Entrances {
-    pub asks: Sender<QueuedAsk>,
-    pub links: Sender<Waiting>,
+pub struct Entrances<C: Core + Named> {
+    pub asks: Sender<QueuedAsk<C>>,
+    pub links: Sender<Waiting<C>>,
 }
 
 /// The routing entry of a node: the node, and the senders of its queues.
@@ -181,13 +211,13 @@ pub struct Entrances {
 /// A removed node has no senders, so its workers end. It is kept only if an audit has to merge its
 /// journal.
 #[derive(Drop)]
-pub struct Route<C: Core> {
+pub struct Route<C: Core + Named> {
     pub name: NodeName,
     pub node: Option<Arc<RunningNode<C>>>,
-    pub entrances: Option<Entrances>,
+    pub entrances: Option<Entrances<C>>,
 }
 
-impl<C: Core> Route<C> {
+impl<C: Core + Named> Route<C> {
     /// Drops the senders if this is the entry of the node of this id, and the node too unless
     /// `keep` is set.
     pub fn retire(&mut self, id: NodeId, keep: bool)
@@ -203,7 +233,7 @@ impl<C: Core> Route<C> {
 
     /// Brings something to the node, unless the node was removed, or one waits already that stands
     /// for it.
-    pub fn forward<R: Wait>(&self, rt: &R, brought: Delivery) {
+    pub fn forward<R: Wait>(&self, rt: &R, brought: Delivery<C>) {
         if let (Some(node), Some(entrances)) = (&self.node, &self.entrances) {
             if let Some(waiting) = node.admit(rt, brought) {
                 put_on_link(rt, node, entrances, waiting);
@@ -212,29 +242,16 @@ impl<C: Core> Route<C> {
     }
 }
 
-/// Puts an item into a node's queue. Out of memory, the item is lost.
-fn put_on_link<R: Wait, C: Core>(
+/// Puts an item into a node's queue. Out of memory, the item is lost, and a message is counted.
+fn put_on_link<R: Wait, C: Core + Named>(
     rt: &R,
     node: &RunningNode<C>,
-    entrances: &Entrances,
-    waiting: Waiting,
+    entrances: &Entrances<C>,
+    waiting: Waiting<C>,
 ) {
     match entrances.links.send(rt, waiting) {
         Ok(()) => (),
-        Err(SendError::OutOfMemory(lost)) => node.lose(lost),
+        Err(SendError::OutOfMemory(lost)) => node.lose_for_memory(lost),
         Err(SendError::Disconnected(lost)) => node.lose(lost),
     }
-}
-
-/// Returns the proof that a cell's node has stopped and the receipt of its last step, in which it
-/// did, or `None` if it runs.
-fn stop_of<C: Core>(cell: &Cell<C>) -> Option<(StopReceipt, Receipt)>
-    ensures { (p : Plain) → C.represents cell.now.inside p → result ≡ (if p.running then None else Some (p.name, receipt_of cell.now)) }
-{
-    let stopped = cell.switch().receipt()?;
-    let stop = Receipt {
-        node: cell.opening().name.node,
-        stamp: cell.stamp(),
-    };
-    Some((stopped, stop))
 }

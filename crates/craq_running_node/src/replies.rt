@@ -3,10 +3,10 @@
 ghost use Rattle.std.specs.Prelude.{◌≡◌, ◌++◌, ◌∷◌, [], None, Some, IfSome, IsTrue, false};
 ghost use Rattle.craq_running_node.specs.Replies.{IsReplyTo, Keeps, caller_under, reply_to, without_caller};
 
-use crate::callers::{ReadyReply, WaitingCaller};
-use craq_completions::{CompletionSender, Outcome};
+use crate::callers::{PendingCaller, ReadyReply, StepOutcome, WaitingCaller};
+use craq_ghost_history::Named;
 use craq_names::{Refusal, Ticket};
-use craq_seat::{Caller, TicketQueue};
+use craq_seat::TicketQueue;
 use std::alloc::{AllocFailed, Global};
 use std::marker::Model;
 use std::sync::Wait;
@@ -16,13 +16,13 @@ const ROOM: usize = 16;
 
 /// The replies of a step, until they are sent. Neither it nor a reply has a drop, so each is sent.
 /// A contract sees them in order, and whether room was ever short.
-pub struct Replies {
-    waiting: Vec<ReadyReply>,
+pub struct Replies<N: Named> {
+    waiting: Vec<ReadyReply<N>>,
     /// There was no room for a reply, which was sent at once.
     short: bool,
 }
 
-impl Model for Replies {
+impl<N: Named> Model for Replies<N> {
     ghost use Rattle.craq_running_node.specs.Replies.{PendingReplies};
 
     ghost Value = { PendingReplies };
@@ -30,7 +30,7 @@ impl Model for Replies {
     ghost view = { λ r. record { replies = r.waiting.items; short = r.short } };
 }
 
-impl Replies {
+impl<N: Named> Replies<N> {
     /// Makes an empty list of replies. Takes no memory.
     pub fn new(alloc: Global) -> Self
         ensures { result ≡ record { replies = []; short = false } }
@@ -56,7 +56,7 @@ impl Replies {
     }
 
     /// Keeps a reply behind the others. Out of memory, gives it back and marks room as short.
-    fn keep(&mut self, reported: ReadyReply) -> Option<ReadyReply>
+    fn keep(&mut self, reported: ReadyReply<N>) -> Option<ReadyReply<N>>
         ensures kept { result ≡ None → (self.new.replies ≡ self.old.replies ++ reported ∷ []) × (self.new.short ≡ self.old.short) }
         ensures back { IfSome result (λ t. (t ≡ reported) × (self.new.replies ≡ self.old.replies) × IsTrue self.new.short) }
     {
@@ -71,7 +71,7 @@ impl Replies {
     }
 
     /// Adds a reply. If there is no room for it, sends it at once.
-    pub(crate) fn add<R: Wait>(&mut self, rt: &R, caller: WaitingCaller, outcome: Outcome)
+    pub(crate) fn add<R: Wait>(&mut self, rt: &R, caller: WaitingCaller<N>, outcome: StepOutcome<N>)
         requires { IsReplyTo caller.ticket outcome }
         ensures { Keeps self.old (record { to = caller; outcome = outcome } ∷ []) self.new }
     {
@@ -86,9 +86,9 @@ impl Replies {
     pub(crate) fn add_under<R: Wait>(
         &mut self,
         rt: &R,
-        callers: &mut TicketQueue<Caller<CompletionSender>>,
+        callers: &mut TicketQueue<PendingCaller<N>>,
         ticket: Ticket,
-        outcome: Outcome,
+        outcome: StepOutcome<N>,
     )
         requires { IsReplyTo (Some ticket) outcome }
         ensures reported { Keeps self.old (reply_to (caller_under callers.old.items ticket) outcome) self.new }
@@ -112,13 +112,13 @@ impl Replies {
 }
 
 /// Refuses these callers, in order: none of them waits any more.
-pub fn refuse_callers<R: Wait>(
+pub fn refuse_callers<R: Wait, N: Named>(
     rt: &R,
     alloc: Global,
-    callers: Vec<Caller<CompletionSender>>,
+    callers: Vec<PendingCaller<N>>,
     refusal: &Refusal,
 ) {
-    let mut replies = Replies::new(alloc);
+    let mut replies = Replies::<N>::new(alloc);
     for caller in callers {
         replies.add(rt, WaitingCaller::waited(caller), Err(*refusal));
     }

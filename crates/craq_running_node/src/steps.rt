@@ -7,46 +7,64 @@ ghost use Rattle.std.specs.declared.alloc.AllocError.{AllocError};
 ghost use Rattle.std.specs.declared.alloc.Global.{Global};
 ghost use Rattle.craq_node.specs.Represented.{CanArrive};
 ghost use Rattle.craq_runs.specs.Chain.{sent_in};
-ghost use Rattle.craq_completions.specs.declared.token.Token.{Token};
 ghost use Rattle.craq_names.specs.declared.refusal.Refusal.{Refusal};
 ghost use Rattle.craq_seat.specs.Calls.{Called};
 ghost use Rattle.craq_seat.specs.Cells.{receipt_of};
-ghost use Rattle.craq_seat.specs.declared.seat.Caller.{Caller};
+ghost use Rattle.craq_store_parts.specs.Recorded.{HaveReplied, MayHappen};
 ghost use Rattle.craq_seat.specs.Numbered.{CanBeSent, numbered_from};
 ghost use Rattle.craq_sending.specs.declared.sending.Kind.TheVariants as kinds;
 ghost use Rattle.craq_sending.specs.Sent.{AreSentAs, OnlySends, entries_from, lone_position};
-ghost use Rattle.craq_running_node.specs.Replies.{IsReplyTo, Keeps, RefusesAsked, RefusesOwn, RefusesQueued, RefusesStep, Settles, TakesOwn, TakesQueued, TellsCallers, Waits, is_own, others_of, own_receipt, replies_to, said_by, said_to, ticket_of, waiting_after, without_memory};
+ghost use Rattle.craq_running_node.specs.Replies.{IsReplyTo, Keeps, RefusesAsked, RefusesOwn, RefusesQueued, RefusesStep, Settles, TakesOwn, TakesQueued, TellsCallers, Waits, is_own, others_of, own_receipt, replies_to, said_by, said_to, ticket_in, ticket_of, waiting_after, without_memory};
 
-use crate::callers::WaitingCaller;
+use crate::callers::{Outcome, PendingCaller, StepOutcome, WaitingCaller, outcome_of};
+use crate::losses::Losses;
 use crate::replies::Replies;
-use craq_completions::{CompletionQueue, CompletionSender, Outcome, Token};
-use craq_model::{Ask, Event, Out, Step};
-use craq_names::{Pass, Refusal, Seq, Ticket};
+use craq_completions::{CompletionQueue, CompletionSender, Token};
+use craq_ghost_history::Named;
+use craq_model::{Event, Out, Step};
+use craq_names::{NodeName, Pass, Refusal, Seq, Ticket};
 use craq_node::Core;
-use craq_seat::{BookCell, CallReceipt, Caller, Cell, Receipt, Seated, TicketQueue};
+use craq_seat::{BookCell, CallReceipt, Cell, Receipt, TicketQueue};
 use craq_sending::{LoneAck, Sent, encode_entries, encode_sent, lone_entry};
-use std::alloc::{AllocError, Global};
+use craq_store_parts::{
+    AcceptedCall, CallMade, Cause, MadeAsk, Messages, OwedAck, RecordedBook, RecordedDesk,
+    StepCalls, StepReceipt, StoreHistory, StoreToken,
+};
+use std::alloc::{AllocError, AllocFailed, Global};
 use std::mem;
 use std::sync::{Arc, Wait};
 
-/// A desk and its callers, each of which waits for a completion.
-pub type SeatedNode<C> = Seated<C, CompletionSender>;
+/// The content of a node's lock: its desk, and its callers, each of which waits for a completion. A
+/// thread that takes the lock knows that the node is the replay of its entries in the store's
+/// history, and that each caller's call was accepted there.
+#[derive(Drop)]
+pub struct SeatedNode<C: Core + Named> {
+    pub desk: RecordedDesk<C>,
+    pub callers: TicketQueue<PendingCaller<C>>,
+}
+
+/// A message that was sent, or a tick, that arrives at a node.
+#[derive(Drop)]
+pub struct Arrival<N: Named> {
+    pub event: Event,
+    pub token: StoreToken<N>,
+}
 
 /// A queued request: the pass that its caller shows, and the place of its completion.
 #[derive(Drop)]
-pub struct QueuedAsk {
-    pub ask: Ask,
+pub struct QueuedAsk<N: Named> {
+    pub made: MadeAsk<N>,
     pub pass: Pass,
-    pub caller: CompletionSender,
+    pub caller: CompletionSender<Outcome<N>>,
 }
 
 /// A caller that may take the step of its request itself: the pass that it shows, the way of a
 /// completion, and its load.
-#[derive(Clone, Copy)]
-pub struct AskingCaller<'a> {
+#[derive(Drop)]
+pub struct AskingCaller<'a, N: Named> {
     pub pass: Pass,
     /// The queue of a completion.
-    pub completions: &'a Arc<CompletionQueue>,
+    pub completions: &'a Arc<CompletionQueue<Outcome<N>>>,
     /// The token of that completion.
     pub token: Token,
     /// The caller has few requests, and may run the chain's nodes itself.
@@ -55,21 +73,30 @@ pub struct AskingCaller<'a> {
 
 /// A request with its caller, who may take its step.
 #[derive(Drop)]
-pub struct OwnAsk<'a> {
-    pub ask: Ask,
-    pub caller: AskingCaller<'a>,
+pub struct OwnAsk<'a, N: Named> {
+    pub made: MadeAsk<N>,
+    pub caller: AskingCaller<'a, N>,
 }
 
-/// The outcome of a request that a node accepted: its ticket, and the reply if there is one at
-/// once.
+/// The outcome of a request that a node accepted: its call, and the reply if there is one at once.
 #[derive(Drop)]
-struct Taken {
-    ticket: Option<Ticket>,
-    reply: Option<Outcome>,
+struct Taken<N: Named> {
+    accepted: Option<AcceptedCall<N>>,
+    reply: Option<StepOutcome<N>>,
 }
 
-/// Encodes what a step sends, under its receipt. Out of memory, it is lost.
-fn sent_by(alloc: Global, step: Option<&Step>, receipt: Receipt) -> Vec<Sent>
+/// The source of the replies of a step: its node's name, a token that has seen it, and the ticket of
+/// the request that it accepted.
+#[derive(Drop)]
+struct Answering<'a, N: Named> {
+    history: &'a StoreHistory<N>,
+    name: NodeName,
+    token: StoreToken<N>,
+    ticket: Option<Ticket>,
+}
+
+/// Encodes what a step sends, under its receipt. Out of memory, it is lost and counted.
+fn sent_by(alloc: Global, losses: &Losses, step: Option<&Step>, receipt: Receipt) -> Vec<Sent>
     requires { IfSome (option_copied step) (λ s. CanBeSent receipt s.outs) }
     ensures sent { IfSome (option_copied step.entry) (λ s. (result.items ≡ []) ⊎ AreSentAs result.items (numbered_from 0 receipt (sent_in s.outs))) }
     ensures none { option_copied step.entry ≡ None → result.items ≡ [] }
@@ -78,14 +105,23 @@ fn sent_by(alloc: Global, step: Option<&Step>, receipt: Receipt) -> Vec<Sent>
         None => Vec::new(alloc),
         Some(step) => match encode_sent(alloc, step, receipt) {
             Ok(sent) => sent,
-            Err(_) => Vec::new(alloc),
+            Err(_) => {
+                losses.add();
+                Vec::new(alloc)
+            }
         },
     }
 }
 
 /// Encodes those messages of a step that bring an entry of this position or a later one, under its
-/// receipt. Out of memory, they are lost.
-fn entries_by(alloc: Global, step: Option<&Step>, receipt: Receipt, first: Seq) -> Vec<Sent>
+/// receipt. Out of memory, they are lost and counted.
+fn entries_by(
+    alloc: Global,
+    losses: &Losses,
+    step: Option<&Step>,
+    receipt: Receipt,
+    first: Seq,
+) -> Vec<Sent>
     requires { IfSome (option_copied step) (λ s. CanBeSent receipt s.outs) }
     ensures sent { IfSome (option_copied step.entry) (λ s. (result.items ≡ []) ⊎ AreSentAs result.items (entries_from first (numbered_from 0 receipt (sent_in s.outs)))) }
     ensures none { option_copied step.entry ≡ None → result.items ≡ [] }
@@ -94,7 +130,10 @@ fn entries_by(alloc: Global, step: Option<&Step>, receipt: Receipt, first: Seq) 
         None => Vec::new(alloc),
         Some(step) => match encode_entries(alloc, step, receipt, first) {
             Ok(sent) => sent,
-            Err(_) => Vec::new(alloc),
+            Err(_) => {
+                losses.add();
+                Vec::new(alloc)
+            }
         },
     }
 }
@@ -109,16 +148,49 @@ fn last_receipt<C: Core>(cell: &Cell<C>) -> Receipt
     }
 }
 
-/// Encodes what a node's last step sends. Out of memory, it is lost.
-pub fn sent_by_node<C: Core>(alloc: Global, cell: &Cell<C>) -> Vec<Sent>
+/// Encodes what a cell's last step sends. Out of memory, it is lost and counted.
+fn sent_by_cell<C: Core>(alloc: Global, losses: &Losses, cell: &Cell<C>) -> Vec<Sent>
     ensures sent { IfSome cell.now.last (λ s. (result.items ≡ []) ⊎ AreSentAs result.items (numbered_from 0 (receipt_of cell.now) (sent_in s.outs))) }
     ensures none { cell.now.last ≡ None → result.items ≡ [] }
 {
-    sent_by(alloc, cell.last(), last_receipt(cell))
+    sent_by(alloc, losses, cell.last(), last_receipt(cell))
+}
+
+/// Encodes what a node's last step sends. Out of memory, it is lost and counted.
+pub fn messages_of<C: Core + Named>(
+    alloc: Global,
+    losses: &Losses,
+    history: &StoreHistory<C>,
+    seated: &mut SeatedNode<C>,
+) -> Messages<C>
+    ensures sent { IfSome seated.old.desk.cell.last (λ s. (result.sent ≡ []) ⊎ AreSentAs result.sent (numbered_from 0 (receipt_of seated.old.desk.cell) (sent_in s.outs))) }
+    ensures none { seated.old.desk.cell.last ≡ None → result.sent ≡ [] }
+    ensures same { seated.new ≡ seated.old }
+{
+    let chain = seated.desk.cell().opening().name.chain;
+    let sent = sent_by_cell(alloc, losses, seated.desk.cell());
+    Messages::new(chain, sent, seated.desk.token(history))
 }
 
 /// Returns the acknowledgement of a node's last step, if the step does nothing else.
-pub fn lone_ack_of<C: Core>(cell: &Cell<C>) -> Option<LoneAck>
+pub fn owed_by<C: Core + Named>(
+    history: &StoreHistory<C>,
+    seated: &mut SeatedNode<C>,
+) -> Option<OwedAck<C>>
+    ensures only { IfSome result (λ ack. IfSome seated.old.desk.cell.last (λ s. OnlySends kinds.Ack s.outs × (numbered_from 0 (receipt_of seated.old.desk.cell) (sent_in s.outs) ≡ ack ∷ []))) }
+    ensures other { IsNone result → IfSome seated.old.desk.cell.last (λ s. ¬ (OnlySends kinds.Ack s.outs)) }
+    ensures none { seated.old.desk.cell.last ≡ None → IsNone result }
+    ensures same { seated.new ≡ seated.old }
+{
+    let chain = seated.desk.cell().opening().name.chain;
+    match lone_ack_of(seated.desk.cell()) {
+        None => None,
+        Some(ack) => Some(OwedAck::new(chain, ack, seated.desk.token(history))),
+    }
+}
+
+/// Returns the acknowledgement of a cell's last step, if the step does nothing else.
+fn lone_ack_of<C: Core>(cell: &Cell<C>) -> Option<LoneAck>
     ensures only { IfSome result (λ ack. IfSome cell.now.last (λ s. OnlySends kinds.Ack s.outs × (numbered_from 0 (receipt_of cell.now) (sent_in s.outs) ≡ ack ∷ []))) }
     ensures other { IsNone result → IfSome cell.now.last (λ s. ¬ (OnlySends kinds.Ack s.outs)) }
     ensures none { cell.now.last ≡ None → IsNone result }
@@ -135,16 +207,41 @@ pub fn lone_entry_of<C: Core>(cell: &Cell<C>) -> Option<Seq>
 }
 
 /// Encodes those messages of a node's last step that bring an entry of this position or a later
-/// one, in order. Out of memory, they are lost.
-pub fn entries_by_node<C: Core>(alloc: Global, cell: &Cell<C>, first: Seq) -> Vec<Sent>
-    ensures sent { IfSome cell.now.last (λ s. (result.items ≡ []) ⊎ AreSentAs result.items (entries_from first (numbered_from 0 (receipt_of cell.now) (sent_in s.outs)))) }
-    ensures none { cell.now.last ≡ None → result.items ≡ [] }
+/// one, in order. Out of memory, they are lost and counted.
+pub fn entries_of<C: Core + Named>(
+    alloc: Global,
+    losses: &Losses,
+    history: &StoreHistory<C>,
+    seated: &mut SeatedNode<C>,
+    first: Seq,
+) -> Messages<C>
+    ensures sent { IfSome seated.old.desk.cell.last (λ s. (result.sent ≡ []) ⊎ AreSentAs result.sent (entries_from first (numbered_from 0 (receipt_of seated.old.desk.cell) (sent_in s.outs)))) }
+    ensures none { seated.old.desk.cell.last ≡ None → result.sent ≡ [] }
+    ensures same { seated.new ≡ seated.old }
 {
-    entries_by(alloc, cell.last(), last_receipt(cell), first)
+    let cell = seated.desk.cell();
+    let chain = cell.opening().name.chain;
+    let sent = entries_by(alloc, losses, cell.last(), last_receipt(cell), first);
+    Messages::new(chain, sent, seated.desk.token(history))
 }
 
-/// Encodes what a master's last step sends. Out of memory, it is lost.
-pub fn sent_by_book(alloc: Global, book: &BookCell) -> Vec<Sent>
+/// Encodes what a master's last step sends. Out of memory, it is lost, and no node counts it.
+pub fn messages_of_book<N: Named>(
+    alloc: Global,
+    history: &StoreHistory<N>,
+    book: &mut RecordedBook<N>,
+) -> Messages<N>
+    ensures sent { IfSome book.old.last (λ s. (result.sent ≡ []) ⊎ AreSentAs result.sent (numbered_from 0 (receipt_of book.old) (sent_in s.outs))) }
+    ensures none { book.old.last ≡ None → result.sent ≡ [] }
+    ensures same { book.new ≡ book.old }
+{
+    let chain = book.cell().opening().name.chain;
+    let sent = sent_by_book(alloc, book.cell());
+    Messages::new(chain, sent, book.token(history))
+}
+
+/// Encodes what a master's last step sends. Out of memory, it is lost, and no node counts it.
+fn sent_by_book(alloc: Global, book: &BookCell) -> Vec<Sent>
     ensures sent { IfSome book.now.last (λ s. (result.items ≡ []) ⊎ AreSentAs result.items (numbered_from 0 (receipt_of book.now) (sent_in s.outs))) }
     ensures none { book.now.last ≡ None → result.items ≡ [] }
 {
@@ -152,50 +249,53 @@ pub fn sent_by_book(alloc: Global, book: &BookCell) -> Vec<Sent>
         node: book.opening().name.node,
         stamp: book.stamp(),
     };
-    sent_by(alloc, book.last(), receipt)
+    sent_by(alloc, &Losses::new(), book.last(), receipt)
 }
 
-/// Adds a reply for each of these receipts, but returns the receipt under `ticket`: it belongs to
-/// the caller whose step this is.
-fn answer<R: Wait>(
+/// Adds a reply for each of these receipts, but returns the receipt under the step's own ticket: it
+/// belongs to the caller whose step this is.
+fn answer<R: Wait, N: Named>(
     rt: &R,
-    callers: &mut TicketQueue<Caller<CompletionSender>>,
+    callers: &mut TicketQueue<PendingCaller<N>>,
     receipts: Vec<CallReceipt>,
-    ticket: Option<Ticket>,
-    replies: &mut Replies,
-) -> Option<Outcome>
-    ensures own { result ≡ option_map Ok (own_receipt ticket receipts.items) }
-    ensures reported { Keeps replies.old (replies_to callers.old.items (others_of ticket receipts.items)) replies.new }
-    ensures others { callers.new.items ≡ waiting_after callers.old.items (others_of ticket receipts.items) }
+    answering: &mut Answering<'_, N>,
+    replies: &mut Replies<N>,
+) -> Option<StepOutcome<N>>
+    requires { HaveReplied answering.old.token answering.old.name receipts.items }
+    ensures own { result ≡ option_map Ok (own_receipt answering.old.ticket receipts.items) }
+    ensures reported { Keeps replies.old (replies_to callers.old.items (others_of answering.old.ticket receipts.items)) replies.new }
+    ensures others { callers.new.items ≡ waiting_after callers.old.items (others_of answering.old.ticket receipts.items) }
 {
     let mut own = None;
     for receipt in receipts {
-        if is_own(&ticket, &receipt) {
-            own = Some(Ok(receipt));
+        let token = answering.token.again(answering.history);
+        let reply = StepReceipt::new(receipt, answering.name, token);
+        let at = reply.ticket();
+        if is_own(&answering.ticket, at) {
+            own = Some(Ok(reply));
         } else {
-            let at = receipt.ticket();
-            replies.add_under(rt, callers, at, Ok(receipt));
+            replies.add_under(rt, callers, at, Ok(reply));
         }
     }
     own
 }
 
-/// Returns whether a receipt is of the call under this ticket.
-fn is_own(ticket: &Option<Ticket>, receipt: &CallReceipt) -> bool
-    ensures { result ≡ is_own ticket.now receipt.now }
+/// Returns whether a ticket is the one of the step's own request.
+fn is_own(own: &Option<Ticket>, ticket: Ticket) -> bool
+    ensures { (receipt : Called) → ticket ≡ receipt.call.ticket → result ≡ is_own own.now receipt }
 {
-    match ticket {
-        Some(ticket) => receipt.ticket() == *ticket,
+    match own {
+        Some(own) => ticket == *own,
         None => false,
     }
 }
 
 /// Refuses with `Memory` the callers whose calls a step answers.
-fn give_up_step<R: Wait>(
+fn give_up_step<R: Wait, N: Named>(
     rt: &R,
-    callers: &mut TicketQueue<Caller<CompletionSender>>,
+    callers: &mut TicketQueue<PendingCaller<N>>,
     outs: &[Out],
-    replies: &mut Replies,
+    replies: &mut Replies<N>,
 )
     ensures reported { Keeps replies.old (replies_to callers.old.items (without_memory outs.now)) replies.new }
     ensures others { callers.new.items ≡ waiting_after callers.old.items (without_memory outs.now) }
@@ -210,21 +310,23 @@ fn give_up_step<R: Wait>(
     }
 }
 
-/// Adds the replies to the callers that a step answers. Returns the reply under `ticket`.
-fn finish<R: Wait, C: Core>(
+/// Adds the replies to the callers that a step answers. Returns the reply under the step's own
+/// ticket.
+fn finish<R: Wait, C: Core + Named>(
     rt: &R,
     seated: &mut SeatedNode<C>,
     calls: Result<Vec<CallReceipt>, AllocError>,
-    ticket: Option<Ticket>,
-    replies: &mut Replies,
-) -> Option<Outcome>
-    ensures own { result ≡ said_to ticket calls }
-    ensures reported { Keeps replies.old (replies_to seated.old.callers.items (said_by calls seated.old.desk.cell.last ticket)) replies.new }
-    ensures others { seated.new.callers.items ≡ waiting_after seated.old.callers.items (said_by calls seated.old.desk.cell.last ticket) }
+    answering: &mut Answering<'_, C>,
+    replies: &mut Replies<C>,
+) -> Option<StepOutcome<C>>
+    requires { IfOk calls (λ receipts. HaveReplied answering.old.token answering.old.name receipts.items) }
+    ensures own { result ≡ said_to answering.old.ticket calls }
+    ensures reported { Keeps replies.old (replies_to seated.old.callers.items (said_by calls seated.old.desk.cell.last answering.old.ticket)) replies.new }
+    ensures others { seated.new.callers.items ≡ waiting_after seated.old.callers.items (said_by calls seated.old.desk.cell.last answering.old.ticket) }
     ensures desk { seated.new.desk ≡ seated.old.desk }
 {
     match calls {
-        Ok(receipts) => answer(rt, &mut seated.callers, receipts, ticket, replies),
+        Ok(receipts) => answer(rt, &mut seated.callers, receipts, answering, replies),
         Err(_) => {
             if let Some(step) = seated.desk.cell().last() {
                 give_up_step(rt, &mut seated.callers, step.outs.as_slice(), replies);
@@ -236,21 +338,42 @@ fn finish<R: Wait, C: Core>(
 
 /// Takes a step of a node on a message or a tick. Returns whether it was taken; a refused step
 /// changes nothing.
-pub fn take_event<R: Wait, C: Core>(
+pub fn take_event<R: Wait, C: Core + Named>(
     rt: &R,
+    history: &StoreHistory<C>,
     seated: &mut SeatedNode<C>,
-    event: Event,
-    replies: &mut Replies,
+    arrival: Arrival<C>,
+    replies: &mut Replies<C>,
 ) -> bool
-    requires { CanArrive event }
-    ensures taken { IsTrue result → (calls : Result (Vec Called Global) AllocError) × TellsCallers C.represents seated.old seated.new.desk seated.new.callers.items event 0 None calls replies.old replies.new }
+    requires arrives { CanArrive arrival.event }
+    requires may { MayHappen arrival.token seated.old.desk.cell.opening.name arrival.event None }
+    ensures taken { IsTrue result → (calls : Result (Vec Called Global) AllocError) × TellsCallers C.represents seated.old seated.new.desk seated.new.callers.items arrival.event 0 None calls replies.old replies.new }
     ensures same { result ≡ false → (seated.new.callers.items ≡ seated.old.callers.items) × (replies.new ≡ replies.old) }
-    ensures refused { result ≡ false → (e : Refusal) × RefusesStep C.represents seated.old.desk seated.new.desk event 0 e }
+    ensures refused { result ≡ false → (e : Refusal) × RefusesStep C.represents seated.old.desk seated.new.desk arrival.event 0 e }
+    ensures opening { seated.new.desk.cell.opening ≡ seated.old.desk.cell.opening }
 {
     let alloc = replies.allocator();
-    match seated.desk.take(alloc, event, Pass::start()) {
-        Ok((_, calls)) => {
-            let none = finish(rt, seated, calls, None, replies);
+    let name = seated.desk.cell().opening().name;
+    let Arrival { event, token } = arrival;
+    let cause = Cause {
+        pass: Pass::start(),
+        call: None,
+        token,
+    };
+    match seated.desk.take(alloc, history, event, cause) {
+        Ok((_, done)) => {
+            let StepCalls {
+                calls,
+                accepted: _,
+                token,
+            } = done;
+            let mut answering = Answering {
+                history,
+                name,
+                token,
+                ticket: None,
+            };
+            let none = finish(rt, seated, calls, &mut answering, replies);
             drop(none);
             true
         }
@@ -259,151 +382,180 @@ pub fn take_event<R: Wait, C: Core>(
 }
 
 /// Takes the step of a request, after making room for its caller. A refused one changes nothing.
-fn take_ask<R: Wait, C: Core>(
+fn take_ask<R: Wait, C: Core + Named>(
     rt: &R,
+    history: &StoreHistory<C>,
     seated: &mut SeatedNode<C>,
-    ask: Ask,
-    pass: Pass,
-    replies: &mut Replies,
-) -> Result<Taken, Refusal>
-    ensures own { IfOk result (λ taken. IfSome taken.reply (λ reply. IsReplyTo taken.ticket reply)) }
-    ensures taken { IfOk result (λ taken. (calls : Result (Vec Called Global) AllocError) × TellsCallers C.represents seated.old seated.new.desk seated.new.callers.items (Event.Ask ask) pass taken.ticket calls replies.old replies.new × (taken.reply ≡ said_to taken.ticket calls)) }
-    ensures ticket { IfOk result (λ taken. taken.ticket ≡ ticket_of seated.new.desk.cell.last) }
+    asked: (MadeAsk<C>, Pass),
+    replies: &mut Replies<C>,
+) -> Result<Taken<C>, Refusal>
+    ensures own { IfOk result (λ taken. IfSome taken.reply (λ reply. IsReplyTo (ticket_in taken.accepted) reply)) }
+    ensures taken { IfOk result (λ taken. (calls : Result (Vec Called Global) AllocError) × TellsCallers C.represents seated.old seated.new.desk seated.new.callers.items (Event.Ask asked.0.ask) asked.1 (ticket_in taken.accepted) calls replies.old replies.new × (taken.reply ≡ said_to (ticket_in taken.accepted) calls)) }
+    ensures ticket { IfOk result (λ taken. ticket_in taken.accepted ≡ ticket_of seated.new.desk.cell.last) }
     ensures same { OnErr result ((seated.new.callers.items ≡ seated.old.callers.items) × (replies.new ≡ replies.old)) }
-    ensures refused { IfErr result (λ e. RefusesAsked C.represents seated.old.desk seated.new.desk ask pass e) }
+    ensures refused { IfErr result (λ e. RefusesAsked C.represents seated.old.desk seated.new.desk asked.0.name asked.0.ask asked.1 e) }
 {
+    let (made, pass) = asked;
     if seated.callers.reserve().is_err() {
-        drop(ask);
+        drop(made);
         return Err(Refusal::Memory);
     }
+    let name = seated.desk.cell().opening().name;
+    if made.name() != name {
+        drop(made);
+        return Err(Refusal::WrongNode);
+    }
     let alloc = replies.allocator();
-    match seated.desk.take(alloc, Event::Ask(ask), pass) {
+    let (ask, made) = made.into_parts();
+    let CallMade { call, token } = made;
+    let cause = Cause {
+        pass,
+        call: Some(call),
+        token,
+    };
+    match seated.desk.take(alloc, history, Event::Ask(ask), cause) {
         Err(refusal) => Err(refusal),
-        Ok((_, calls)) => {
-            let own = last_ticket(seated.desk.cell().last());
-            let reply = finish(rt, seated, calls, own, replies);
-            let ticket = last_ticket(seated.desk.cell().last());
-            Ok(Taken { ticket, reply })
+        Ok((_, done)) => {
+            let StepCalls {
+                calls,
+                accepted,
+                token,
+            } = done;
+            let mut answering = Answering {
+                history,
+                name,
+                token,
+                ticket: last_ticket(seated.desk.cell().last()),
+            };
+            let reply = finish(rt, seated, calls, &mut answering, replies);
+            Ok(Taken { accepted, reply })
         }
     }
 }
 
 /// Takes the step of a queued request. Its caller waits from then on, or gets a reply at once.
 /// Returns whether the step was taken.
-pub fn take_queued<R: Wait, C: Core>(
+pub fn take_queued<R: Wait, C: Core + Named>(
     rt: &R,
+    history: &StoreHistory<C>,
     seated: &mut SeatedNode<C>,
-    asked: QueuedAsk,
-    replies: &mut Replies,
+    asked: QueuedAsk<C>,
+    replies: &mut Replies<C>,
 ) -> bool
-    ensures taken { IsTrue result → TakesQueued C.represents seated.old seated.new asked.ask asked.pass asked.caller replies.old replies.new }
-    ensures refused { result ≡ false → RefusesQueued C.represents seated.old seated.new asked.ask asked.pass asked.caller replies.old replies.new }
+    ensures taken { IsTrue result → TakesQueued C.represents seated.old seated.new asked.made.ask asked.pass asked.caller replies.old replies.new }
+    ensures refused { result ≡ false → RefusesQueued C.represents seated.old seated.new asked.made.name asked.made.ask asked.pass asked.caller replies.old replies.new }
 {
-    let QueuedAsk { ask, pass, caller } = asked;
-    let caller = WaitingCaller::of(caller);
-    match take_ask(rt, seated, ask, pass, replies) {
+    let QueuedAsk { made, pass, caller } = asked;
+    match take_ask(rt, history, seated, (made, pass), replies) {
         Err(refusal) => {
-            replies.add(rt, caller, Err(refusal));
+            replies.add(rt, WaitingCaller::of(None, caller), Err(refusal));
             false
         }
         Ok(taken) => {
-            settle(rt, &mut seated.callers, caller, taken, replies);
+            let Taken { accepted, reply } = taken;
+            let caller = WaitingCaller::of(accepted, caller);
+            settle(rt, &mut seated.callers, caller, reply, replies);
             true
         }
     }
 }
 
 /// Refuses a queued request with `Closed`: the store is closed.
-pub fn refuse_asked<R: Wait>(rt: &R, asked: QueuedAsk, replies: &mut Replies)
+pub fn refuse_asked<R: Wait, N: Named>(rt: &R, asked: QueuedAsk<N>, replies: &mut Replies<N>)
     ensures { Keeps replies.old (record { to = record { ticket = None; token = asked.caller }; outcome = Err Refusal.Closed } ∷ []) replies.new }
 {
     let QueuedAsk {
-        ask,
+        made,
         pass: _,
         caller,
     } = asked;
-    drop(ask);
-    replies.add(rt, WaitingCaller::of(caller), Err(Refusal::Closed));
+    drop(made);
+    replies.add(rt, WaitingCaller::of(None, caller), Err(Refusal::Closed));
 }
 
 /// Adds the reply to the caller of a request that was accepted, or makes the caller wait.
-fn settle<R: Wait>(
+fn settle<R: Wait, N: Named>(
     rt: &R,
-    callers: &mut TicketQueue<Caller<CompletionSender>>,
-    caller: WaitingCaller,
-    taken: Taken,
-    replies: &mut Replies,
+    callers: &mut TicketQueue<PendingCaller<N>>,
+    caller: WaitingCaller<N>,
+    reply: Option<StepOutcome<N>>,
+    replies: &mut Replies<N>,
 )
-    requires { IfSome taken.reply (λ reply. IsReplyTo taken.ticket reply) }
-    ensures { Settles caller.token taken.ticket taken.reply callers.old.items callers.new.items replies.old replies.new }
+    requires { IfSome reply (λ reply. IsReplyTo caller.ticket reply) }
+    ensures { Settles caller.token caller.ticket reply callers.old.items callers.new.items replies.old replies.new }
 {
-    let Taken { ticket, reply } = taken;
     match reply {
-        Some(reply) => replies.add(rt, caller.accepted(ticket), reply),
-        None => wait_at(rt, callers, caller, ticket, replies),
+        Some(reply) => replies.add(rt, caller, reply),
+        None => wait_at(rt, callers, caller, replies),
     }
 }
 
-/// Makes the caller wait under this ticket. Out of memory, it is refused with `Memory`.
-fn wait_at<R: Wait>(
+/// Makes the caller wait under the ticket of its call. Out of memory, it is refused with `Memory`,
+/// and with `Closed` if its call has no ticket.
+fn wait_at<R: Wait, N: Named>(
     rt: &R,
-    callers: &mut TicketQueue<Caller<CompletionSender>>,
-    caller: WaitingCaller,
-    ticket: Option<Ticket>,
-    replies: &mut Replies,
+    callers: &mut TicketQueue<PendingCaller<N>>,
+    caller: WaitingCaller<N>,
+    replies: &mut Replies<N>,
 )
-    ensures { Waits caller.token ticket callers.old.items callers.new.items replies.old replies.new }
+    ensures { Waits caller.token caller.ticket callers.old.items callers.new.items replies.old replies.new }
 {
-    let Some(ticket) = ticket else {
-        replies.add(rt, caller.accepted(None), Err(Refusal::Closed));
-        return;
-    };
-    if let Err(refused) = caller.wait(callers, ticket) {
-        replies.add(rt, refused, Err(Refusal::Memory));
+    match caller.pending() {
+        Err(caller) => replies.add(rt, caller, Err(Refusal::Closed)),
+        Ok(pending) => {
+            if let Err(refused) = callers.push(pending) {
+                let AllocFailed { value } = refused;
+                replies.add(rt, WaitingCaller::waited(value), Err(Refusal::Memory));
+            }
+        }
     }
 }
 
 /// Takes the step of the caller's own request. Returns whether the step was taken, and the reply,
 /// or `None` if a completion will come.
-pub fn take_own<R: Wait, C: Core>(
+pub fn take_own<R: Wait, C: Core + Named>(
     rt: &R,
+    history: &StoreHistory<C>,
     seated: &mut SeatedNode<C>,
-    own: OwnAsk<'_>,
-    replies: &mut Replies,
-) -> (bool, Option<Outcome>)
-    ensures taken { IsTrue result.0 → TakesOwn C.represents seated.old seated.new own.entry.ask own.entry.caller.pass own.entry.caller.token result.1 replies.old replies.new }
-    ensures refused { result.0 ≡ false → RefusesOwn C.represents seated.old seated.new own.entry.ask own.entry.caller.pass result.1 replies.old replies.new }
+    own: OwnAsk<'_, C>,
+    replies: &mut Replies<C>,
+) -> (bool, Option<Outcome<C>>)
+    ensures taken { IsTrue result.0 → TakesOwn C.represents seated.old seated.new own.entry.made.ask own.entry.caller.pass own.entry.caller.token result.1 replies.old replies.new }
+    ensures refused { result.0 ≡ false → RefusesOwn C.represents seated.old seated.new own.entry.made.name own.entry.made.ask own.entry.caller.pass result.1 replies.old replies.new }
 {
-    let OwnAsk { ask, caller } = own;
-    match take_ask(rt, seated, ask, caller.pass, replies) {
+    let OwnAsk { made, caller } = own;
+    match take_ask(rt, history, seated, (made, caller.pass), replies) {
         Err(refusal) => (false, Some(Err(refusal))),
         Ok(taken) => {
-            let Taken { ticket, reply } = taken;
+            let Taken { accepted, reply } = taken;
             let hand = match reply {
-                Some(reply) => Some(reply),
-                None => expect_completion(rt, &mut seated.callers, ticket, caller, replies),
+                Some(reply) => Some(outcome_of(accepted, reply)),
+                None => expect_completion(rt, &mut seated.callers, accepted, caller, replies),
             };
             (true, hand)
         }
     }
 }
 
-/// Makes the caller wait for a completion under this ticket, and returns `None`. Out of memory,
-/// returns that refusal.
-fn expect_completion<R: Wait>(
+/// Makes the caller of a call wait for a completion, and returns `None`. Out of memory, returns that
+/// refusal.
+fn expect_completion<R: Wait, N: Named>(
     rt: &R,
-    callers: &mut TicketQueue<Caller<CompletionSender>>,
-    ticket: Option<Ticket>,
-    asking: AskingCaller<'_>,
-    replies: &mut Replies,
-) -> Option<Outcome>
-    ensures waits { result ≡ None → Waits asking.entry.token ticket callers.old.items callers.new.items replies.old replies.new }
+    callers: &mut TicketQueue<PendingCaller<N>>,
+    accepted: Option<AcceptedCall<N>>,
+    asking: AskingCaller<'_, N>,
+    replies: &mut Replies<N>,
+) -> Option<Outcome<N>>
+    ensures waits { result ≡ None → Waits asking.entry.token (ticket_in accepted) callers.old.items callers.new.items replies.old replies.new }
     ensures reported { IfSome result (λ outcome. (outcome ≡ Err Refusal.Memory) × (callers.new.items ≡ callers.old.items) × (replies.new ≡ replies.old)) }
 {
     match CompletionSender::expect(rt, asking.completions, asking.token) {
-        Err(_) => Some(Err(Refusal::Memory)),
+        Err(_) => {
+            drop(accepted);
+            Some(Err(Refusal::Memory))
+        }
         Ok(caller) => {
-            wait_at(rt, callers, WaitingCaller::of(caller), ticket, replies);
+            wait_at(rt, callers, WaitingCaller::of(accepted, caller), replies);
             None
         }
     }
@@ -417,7 +569,7 @@ fn last_ticket(step: Option<&Step>) -> Option<Ticket>
 }
 
 /// Takes all callers that wait.
-pub fn dismiss<C: Core>(alloc: Global, seated: &mut SeatedNode<C>) -> Vec<Caller<CompletionSender>>
+pub fn dismiss<C: Core + Named>(alloc: Global, seated: &mut SeatedNode<C>) -> Vec<PendingCaller<C>>
     ensures all { result.items ≡ seated.old.callers.items }
     ensures none { seated.new.callers.items ≡ [] }
     ensures desk { seated.new.desk ≡ seated.old.desk }

@@ -1,32 +1,48 @@
-use Rattle.std.proofs.Common.{◌≡◌, ◌∙◌, ap, inr, refl, subst, sym, List, Option, ℕ}
-use Rattle.craq_seat.specs.declared.seat.Caller.{Caller}
+use Rattle.std.proofs.Common.{◌≡◌, ◌∙◌, ap, inr, subst, sym, List, Option, ℕ, refl}
 use Rattle.craq_completions.specs.declared.token.Token.{Token}
+use Rattle.craq_model.specs.declared.ask.Ask.{Ask}
 use Rattle.craq_model.specs.declared.ask.Event.TheVariants as events
-use Rattle.craq_running_node.specs.Replies.{Keeps, TellsCallers, replies_to, said_by, said_to, ticket_of, waiting_after}
-use Rattle.craq_running_node.proofs.Telling.{says_it, reported_callers}
+use Rattle.craq_seat.specs.declared.seat.Caller.{Caller}
+use Rattle.craq_running_node.specs.Replies.{Keeps, RefusesStep, TellsCallers, replies_to, said_by, said_to, ticket_in, ticket_of, waiting_after}
+use Rattle.craq_running_node.proofs.Telling.{says_it, reported_callers, ticket_accepted}
 use Rattle.craq_running_node.proofs.steps.take_ask.Goals as goal
 
 pub returns-in-Ok-clause-own : goal.returns-in-Ok-clause-own
 returns-in-Ok-clause-own g c =
-    let own : c.last_ticket-own.result ≡ ticket_of c.take.new.self.cell.last = c.last_ticket-own.ensures ∙ ap ticket_of (c.last.ensures.value ∙ ap (λ x. x.last) c.cell.ensures) in
-    let end : c.last_ticket-ticket.result ≡ ticket_of c.finish-reply.new.seated.desk.cell.last = c.last_ticket-ticket.ensures ∙ ap ticket_of (c.last-in-Ok.ensures.value ∙ ap (λ x. x.last) c.cell-in-Ok.ensures) in
-    let same : c.last_ticket-own.result ≡ c.last_ticket-ticket.result = own ∙ ap (λ d. ticket_of d.cell.last) (sym c.finish-reply.ensures.desk) ∙ sym end in
-    says_it c.last_ticket-own.result c.last_ticket-ticket.result c.in-Ok.calls c.finish-reply.result same c.finish-reply.ensures.own
+    let last = c.take.new.self.cell.last in
+    let accepted = c.in-Ok.done.accepted in
+    let own : c.last_ticket.result ≡ ticket_of last = c.last_ticket.ensures ∙ ap ticket_of (c.last.ensures.value ∙ ap (λ x. x.last) c.cell-in-Ok.ensures) in
+    let its : ticket_in accepted ≡ ticket_of last = ticket_accepted c.take.new.self.cell.opening.name c.into_parts-ask.result.1.call last accepted c.in-Ok.ensures.moved c.in-Ok.ensures.accepted in
+    says_it c.last_ticket.result (ticket_in accepted) c.in-Ok.done.calls c.finish-reply.result (own ∙ sym its) c.finish-reply.ensures.own
 
 pub returns-in-Ok-clause-taken : goal.returns-in-Ok-clause-taken
 returns-in-Ok-clause-taken g c =
-    let own : c.last_ticket-own.result ≡ ticket_of c.take.new.self.cell.last = c.last_ticket-own.ensures ∙ ap ticket_of (c.last.ensures.value ∙ ap (λ x. x.last) c.cell.ensures) in
-    let end : c.last_ticket-ticket.result ≡ ticket_of c.finish-reply.new.seated.desk.cell.last = c.last_ticket-ticket.ensures ∙ ap ticket_of (c.last-in-Ok.ensures.value ∙ ap (λ x. x.last) c.cell-in-Ok.ensures) in
-    let same : c.last_ticket-own.result ≡ c.last_ticket-ticket.result = own ∙ ap (λ d. ticket_of d.cell.last) (sym c.finish-reply.ensures.desk) ∙ sym end in
-    let said = said_by c.in-Ok.calls c.take.new.self.cell.last c.last_ticket-own.result in
+    let represents = g.C.Core.represents in
+    let old = c.args.seated.now in
+    let took = c.take.new.self in
+    let new = c.finish-reply.new.seated in
+    let ask = c.into_parts-ask.result.0 in
+    let pass = c.args.asked.1 in
+    let calls = c.in-Ok.done.calls in
+    let before = c.args.replies.now in
+    let after = c.finish-reply.new.replies in
+    let accepted = c.in-Ok.done.accepted in
+    let own : c.last_ticket.result ≡ ticket_of took.cell.last = c.last_ticket.ensures ∙ ap ticket_of (c.last.ensures.value ∙ ap (λ x. x.last) c.cell-in-Ok.ensures) in
+    let its : ticket_in accepted ≡ ticket_of took.cell.last = ticket_accepted took.cell.opening.name c.into_parts-ask.result.1.call took.cell.last accepted c.in-Ok.ensures.moved c.in-Ok.ensures.accepted in
+    let same : c.last_ticket.result ≡ ticket_in accepted = own ∙ sym its in
+    let said = said_by calls took.cell.last c.last_ticket.result in
     let others = c.finish-reply.ensures.others ∙ ap (λ (cs : List (Caller Token)). waiting_after cs said) c.reserve.ensures.items in
-    let kept = subst (λ (cs : List (Caller Token)). Keeps c.args.replies.now (replies_to cs said) c.finish-reply.new.replies) c.reserve.ensures.items c.finish-reply.ensures.reported in
-    let reported = reported_callers g.C.Core.represents c.args.seated.now c.take.new.self c.finish-reply.new.seated.desk c.finish-reply.new.seated.callers.items (events.Ask c.args.ask) c.in-Ok.field-0-0 c.args.pass c.args.pass c.last_ticket-own.result c.in-Ok.calls c.args.replies.now c.finish-reply.new.replies
-    c.finish-reply.ensures.desk c.in-Ok.ensures.receipt refl (c.in-Ok.ensures.step, c.take.ensures.kept) c.in-Ok.ensures.calls others kept in (
-      c.in-Ok.calls,
-      subst (λ (t : Option ℕ). TellsCallers g.C.Core.represents c.args.seated.now c.finish-reply.new.seated.desk c.finish-reply.new.seated.callers.items (events.Ask c.args.ask) c.args.pass t c.in-Ok.calls c.args.replies.now c.finish-reply.new.replies) same reported,
-      c.finish-reply.ensures.own ∙ ap (λ (t : Option ℕ). said_to t c.in-Ok.calls) same,
+    let kept = subst (λ (cs : List (Caller Token)). Keeps before (replies_to cs said) after) c.reserve.ensures.items c.finish-reply.ensures.reported in
+    let reported = reported_callers represents old took new.desk new.callers.items (events.Ask ask) c.in-Ok.field-0-0 pass pass c.last_ticket.result calls before after
+    c.finish-reply.ensures.desk c.in-Ok.ensures.receipt refl (c.in-Ok.ensures.step, c.take.ensures.kept) c.in-Ok.ensures.calls others kept in
+    let by_ask = subst (λ (a : Ask). TellsCallers represents old new.desk new.callers.items (events.Ask a) pass c.last_ticket.result calls before after) c.into_parts-ask.ensures.ask reported in (
+      calls,
+      subst (λ (t : Option ℕ). TellsCallers represents old new.desk new.callers.items (events.Ask c.args.asked.0.ask) pass t calls before after) same by_ask,
+      c.finish-reply.ensures.own ∙ ap (λ (t : Option ℕ). said_to t calls) same,
     )
 
 pub returns-in-Err-clause-refused : goal.returns-in-Err-clause-refused
-returns-in-Err-clause-refused g c = inr ((c.in-Err.ensures.step, c.take.ensures.kept), c.in-Err.ensures.same)
+returns-in-Err-clause-refused g c =
+    let refuses = subst (λ (a : Ask). RefusesStep g.C.Core.represents c.args.seated.now.desk c.take.new.self (events.Ask a) c.args.asked.1 c.in-Err.refusal) c.into_parts-ask.ensures.ask
+    ((c.in-Err.ensures.step, c.take.ensures.kept), c.in-Err.ensures.same) in
+    inr (inr refuses)

@@ -1,3 +1,4 @@
 pub mod Asks
 pub mod Owed
+pub mod Reacting
 pub mod Routes

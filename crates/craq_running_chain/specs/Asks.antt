@@ -6,7 +6,8 @@ use Rattle.craq_model.specs.declared.ask.Ask.{Ask}
 use Rattle.craq_model.specs.Plain.{Plain}
 use Rattle.craq_names.specs.declared.refusal.Refusal.{Refusal}
 use Rattle.craq_seat.specs.Calls.{Called}
-use Rattle.craq_seat.specs.declared.seat.Seated.{Seated}
+use Rattle.craq_names.specs.declared.name.NodeName.{NodeName}
+use Rattle.craq_running_node.specs.declared.steps.SeatedNode.{SeatedNode}
 use Rattle.craq_running_chain.specs.Missed.{IsMissed}
 use Rattle.craq_running_node.specs.Replies.{ClosesOwn, PendingReplies, RefusesOwn, TakesOwn}
 
@@ -15,10 +16,10 @@ abbrev pub no_replies : PendingReplies
 no_replies = record { replies = []; short = false }
 
 -- a node at hand took the step of the request, or refused it, or is closed; and this is in hand, or a completion will come
-abbrev pub IsServed : {C : Type 0} → (C → Plain → Type 0) → Ask → ℕ → Token → Option (Result Called Refusal) → Type 0
-IsServed {C} represents ask pass token hand =
-    (old : Seated C Token) × (new : Seated C Token) × (after : PendingReplies)
-    × (TakesOwn represents old new ask pass token hand no_replies after ⊎ RefusesOwn represents old new ask pass hand no_replies after ⊎ ClosesOwn old new hand no_replies after)
+abbrev pub IsServed : {C : Type 0} → (C → Plain → Type 0) → NodeName → Ask → ℕ → Token → Option (Result Called Refusal) → Type 0
+IsServed {C} represents name ask pass token hand =
+    (old : SeatedNode C) × (new : SeatedNode C) × (after : PendingReplies)
+    × (TakesOwn represents old new ask pass token hand no_replies after ⊎ RefusesOwn represents old new name ask pass hand no_replies after ⊎ ClosesOwn old new hand no_replies after)
 
 -- no node was asked: there was none to ask, or no memory
 abbrev pub IsRejected : Option (Result Called Refusal) → Type 0
@@ -38,9 +39,9 @@ in_hand (Ok (Some receipt)) = Some (Ok receipt)
 in_hand (Err e) = Some (Err e)
 
 -- a request was served by a node on the spot, or rejected, or queued
-abbrev pub IsPut : {C : Type 0} → (C → Plain → Type 0) → Bool → Ask → ℕ → Token → Option (Result Called Refusal) → Type 0
-IsPut represents chain_threads ask pass token hand = IsServed represents ask pass token hand ⊎ IsRejected hand ⊎ IsQueued chain_threads ask hand
+abbrev pub IsPut : {C : Type 0} → (C → Plain → Type 0) → Bool → NodeName → Ask → ℕ → Token → Option (Result Called Refusal) → Type 0
+IsPut represents chain_threads name ask pass token hand = IsServed represents name ask pass token hand ⊎ IsRejected hand ⊎ IsQueued chain_threads ask hand
 
 -- a call has its outcome in hand, or by a completion for which it waited
-abbrev pub IsCalled : {C : Type 0} → (C → Plain → Type 0) → Bool → Ask → ℕ → Token → Result Called Refusal → Type 0
-IsCalled represents chain_threads ask pass token outcome = IsPut represents chain_threads ask pass token (Some outcome) ⊎ IsPut represents chain_threads ask pass token None
+abbrev pub IsCalled : {C : Type 0} → (C → Plain → Type 0) → Bool → NodeName → Ask → ℕ → Token → Result Called Refusal → Type 0
+IsCalled represents chain_threads name ask pass token outcome = IsPut represents chain_threads name ask pass token (Some outcome) ⊎ IsPut represents chain_threads name ask pass token None

@@ -1,6 +1,5 @@
 -- The steps that a batch of a node takes, the acknowledgement that it owes, and the entries that it holds back.
 use Rattle.std.specs.Prelude.{◌≡◌, ◌⊎◌, ℕ, List, Option, [], ◌∷◌, IfSome, IsSome}
-use Rattle.craq_completions.specs.declared.token.Token.{Token}
 use Rattle.craq_model.specs.declared.ask.Event.{Event}
 use Rattle.craq_model.specs.declared.ask.Event.TheVariants as events
 use Rattle.craq_model.specs.declared.message.LinkMessage.{LinkMessage}
@@ -9,7 +8,7 @@ use Rattle.craq_model.specs.Plain.{Plain}
 use Rattle.craq_runs.specs.Chain.{sent_in}
 use Rattle.craq_seat.specs.Cells.{Celled, receipt_of}
 use Rattle.craq_seat.specs.Numbered.{numbered_from}
-use Rattle.craq_seat.specs.declared.seat.Seated.{Seated}
+use Rattle.craq_running_node.specs.declared.steps.SeatedNode.{SeatedNode}
 use Rattle.craq_sending.specs.declared.sending.Kind.TheVariants as kinds
 use Rattle.craq_sending.specs.Sent.{OnlySends, lone_position}
 use Rattle.craq_running_chain.specs.declared.unsent.Unsent.{Unsent}
@@ -20,13 +19,13 @@ use Rattle.craq_running_chain.specs.declared.unsent.Unsent.TheVariants as unsent
 use Rattle.craq_running_node.specs.Replies.{PendingReplies, ReactsTo}
 
 -- a node reacts to the message that these bytes encode; out of memory, or if they encode none, it is as it was
-abbrev pub Hears : {C : Type 0} → (C → Plain → Type 0) → Seated C Token → Seated C Token → List ℕ → PendingReplies → PendingReplies → Type 0
+abbrev pub Hears : {C : Type 0} → (C → Plain → Type 0) → SeatedNode C → SeatedNode C → List ℕ → PendingReplies → PendingReplies → Type 0
 Hears represents old new bytes before after =
     ((m : LinkMessage) × Encodes m bytes × ReactsTo represents old new (events.Deliver m) before after) ⊎ ((new ≡ old) × (after ≡ before))
 
 -- a node reacts to the item that was brought: to this message, to a tick, or to the last message of its kind
-abbrev pub TakesBrought : {C : Type 0} → (C → Plain → Type 0) → Seated C Token → Seated C Token → Waiting → PendingReplies → PendingReplies → Type 0
-TakesBrought represents old new (waits.Message bytes) before after = Hears represents old new bytes before after
+abbrev pub TakesBrought : {C : Type 0} → (C → Plain → Type 0) → SeatedNode C → SeatedNode C → Waiting C → PendingReplies → PendingReplies → Type 0
+TakesBrought represents old new (waits.Message wire) before after = Hears represents old new wire.bytes before after
 TakesBrought represents old new waits.Ack before after = (bytes : List ℕ) × Hears represents old new bytes before after
 TakesBrought represents old new waits.Blank before after = (bytes : List ℕ) × Hears represents old new bytes before after
 TakesBrought represents old new waits.Tick before after = ReactsTo represents old new events.Tick before after

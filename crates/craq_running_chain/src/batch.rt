@@ -6,44 +6,45 @@ ghost use Rattle.craq_locked_chain.specs.Held.{cell_in};
 ghost use Rattle.craq_node.specs.Represented.{CanArrive};
 ghost use Rattle.craq_running_chain.specs.declared.unsent.Unsent.TheVariants as unsent;
 ghost use Rattle.craq_running_node.specs.Replies.{ClosesOwn, ClosesQueued, ReactsTo, RefusesOwn, RefusesQueued, TakesOwn, TakesQueued};
+ghost use Rattle.craq_store_parts.specs.Recorded.{MayHappen};
 ghost use Rattle.craq_running_chain.specs.Batches.{Hears, HoldsBack, OwesLast, OwesStill, TakesBrought};
 
 use crate::shared::{Shared, Wakes};
 use crate::unsent::Unsent;
-use bytes::Bytes;
-use craq_completions::Outcome;
+use craq_ghost_history::Named;
 use craq_model::Event;
 use craq_names::{Refusal, Seq};
 use craq_node::Core;
 use craq_running_node::{
-    Gate, OwnAsk, QueuedAsk, Replies, RunningNode, SeatedNode, Waiting, entries_by_node,
-    lone_ack_of, lone_entry_of, refuse_asked, sent_by_node, take_event, take_own, take_queued,
+    Arrival, Gate, Outcome, OwnAsk, QueuedAsk, Replies, RunningNode, SeatedNode, Waiting,
+    entries_of, lone_entry_of, messages_of, owed_by, refuse_asked, take_event, take_own,
+    take_queued,
 };
-use craq_sending::{LoneAck, Sent};
-use craq_wire::decode;
+use craq_store_parts::{Messages, OwedAck, Wire};
 use std::alloc::Global;
 use std::mem;
 use std::sync::{MutexGuard, Wait};
 
 /// The way out of a node, for what its batch sends.
 #[derive(Drop)]
-struct Exit<'a, C: Core, G: Gate> {
+struct Exit<'a, C: Core + Named, G: Gate> {
     alloc: Global,
     shared: &'a Shared<C, G>,
     node: &'a RunningNode<C>,
     wakes: Wakes,
 }
 
-impl<'a, C: Core, G: Gate> Exit<'a, C, G> {
+impl<'a, C: Core + Named, G: Gate> Exit<'a, C, G> {
     /// Sends messages, in order.
-    fn post<R: Wait>(&self, rt: &R, sent: Vec<Sent>) {
-        self.shared.post(rt, &self.node.name, sent, self.wakes);
+    fn post<R: Wait>(&self, rt: &R, messages: Messages<C>) {
+        self.shared.post(rt, &self.node.name, messages, self.wakes);
     }
 
-    /// Sends an acknowledgement. Out of memory, it is lost.
-    fn acknowledge<R: Wait>(&self, rt: &R, ack: LoneAck) {
-        if let Ok(sent) = ack.encode(self.alloc) {
-            self.shared.send(rt, &self.node.name, sent, self.wakes);
+    /// Sends an acknowledgement. Out of memory, it is lost and counted.
+    fn acknowledge<R: Wait>(&self, rt: &R, ack: OwedAck<C>) {
+        match ack.encode(self.alloc) {
+            Ok(outgoing) => self.shared.send(rt, &self.node.name, outgoing, self.wakes),
+            Err(_) => self.node.losses.add(),
         }
     }
 }
@@ -60,15 +61,15 @@ impl<'a, C: Core, G: Gate> Exit<'a, C, G> {
 ///
 /// A batch has no drop: only `end` ends it, after what is held back and owed. No contract says that
 /// this goes out, since none sees what the links take.
-pub(crate) struct NodeBatch<'a, C: Core, G: Gate> {
+pub(crate) struct NodeBatch<'a, C: Core + Named, G: Gate> {
     exit: Exit<'a, C, G>,
     seated: MutexGuard<'a, SeatedNode<C>>,
-    replies: Replies,
-    owed: Option<LoneAck>,
+    replies: Replies<C>,
+    owed: Option<OwedAck<C>>,
     unsent: Unsent,
 }
 
-impl<'a, C: Core, G: Gate> NodeBatch<'a, C, G> {
+impl<'a, C: Core + Named, G: Gate> NodeBatch<'a, C, G> {
     /// Begins a batch of a node whose lock is held. It owes nothing yet and holds nothing back.
     /// Takes no memory.
     pub(crate) fn begin(
@@ -138,33 +139,35 @@ impl<'a, C: Core, G: Gate> NodeBatch<'a, C, G> {
             Unsent::Nothing => (),
             Unsent::Last(_) => self.send_step(rt),
             Unsent::Several(first) => {
-                if take_event(rt, &mut self.seated, Event::Tick, &mut self.replies) {
+                if self.tick(rt) {
                     self.send_entries(rt, first);
                 }
             }
         }
     }
 
-    /// Takes the step on what was brought. Out of memory to decode a message, the message is lost.
-    pub(crate) fn take_brought<R: Wait>(&mut self, rt: &R, waiting: Waiting)
+    /// Takes the step on what was brought. Out of memory to decode a message, it is lost and counted.
+    pub(crate) fn take_brought<R: Wait>(&mut self, rt: &R, waiting: Waiting<C>)
         ensures { TakesBrought C.represents (mutex_guard_value self.old.seated) (mutex_guard_value self.new.seated) waiting self.old.replies self.new.replies }
     {
         match waiting {
             Waiting::Tick => {
                 self.exit.node.tick_taken();
-                self.step(rt, Event::Tick);
+                if self.tick(rt) {
+                    self.post_step(rt);
+                }
             }
-            Waiting::Message(bytes) => self.hear(rt, bytes),
+            Waiting::Message(wire) => self.hear(rt, wire),
             Waiting::Ack => {
                 // An acknowledgement that comes from now on waits anew.
                 self.exit.node.ack.open();
-                if let Some(bytes) = self.exit.node.ack.take(rt) {
-                    self.hear(rt, bytes);
+                if let Some(wire) = self.exit.node.ack.take(rt) {
+                    self.hear(rt, wire);
                 }
             }
             Waiting::Blank => {
-                if let Some(bytes) = self.exit.node.blank.take(rt) {
-                    self.hear(rt, bytes);
+                if let Some(wire) = self.exit.node.blank.take(rt) {
+                    self.hear(rt, wire);
                 }
                 // This step answers the repetitions that came meanwhile.
                 self.exit.node.blank.open();
@@ -172,47 +175,77 @@ impl<'a, C: Core, G: Gate> NodeBatch<'a, C, G> {
         }
     }
 
-    /// Takes the step on an encoded message.
-    fn hear<R: Wait>(&mut self, rt: &R, bytes: Bytes)
-        ensures { Hears C.represents (mutex_guard_value self.old.seated) (mutex_guard_value self.new.seated) bytes self.old.replies self.new.replies }
+    /// Takes the step on an encoded message of the node's chain. One of another chain is lost.
+    fn hear<R: Wait>(&mut self, rt: &R, wire: Wire<C>)
+        ensures { Hears C.represents (mutex_guard_value self.old.seated) (mutex_guard_value self.new.seated) wire.bytes self.old.replies self.new.replies }
     {
-        if let Ok(message) = decode(self.exit.alloc, bytes.as_slice()) {
-            self.step(rt, Event::Deliver(message));
+        if wire.chain() != self.seated.desk.cell().opening().name.chain {
+            drop(wire);
+            return;
+        }
+        match wire.read(self.exit.alloc) {
+            Ok((message, token)) => {
+                let event = Event::Deliver(message);
+                self.deliver(rt, Arrival { event, token });
+            }
+            Err(_) => self.exit.node.losses.add(),
         }
     }
 
-    /// Takes one step on a message or a tick, and sends what it sends.
-    fn step<R: Wait>(&mut self, rt: &R, event: Event)
-        requires { CanArrive event }
-        ensures { ReactsTo C.represents (mutex_guard_value self.old.seated) (mutex_guard_value self.new.seated) event self.old.replies self.new.replies }
+    /// Takes the step on a message, and sends what it sends.
+    fn deliver<R: Wait>(&mut self, rt: &R, arrival: Arrival<C>)
+        requires arrives { CanArrive arrival.event }
+        requires may { MayHappen arrival.token (mutex_guard_value self.old.seated).desk.cell.opening.name arrival.event None }
+        ensures { ReactsTo C.represents (mutex_guard_value self.old.seated) (mutex_guard_value self.new.seated) arrival.event self.old.replies self.new.replies }
     {
-        if take_event(rt, &mut self.seated, event, &mut self.replies) {
+        let history = &self.exit.shared.history;
+        if take_event(rt, history, &mut self.seated, arrival, &mut self.replies) {
             self.post_step(rt);
         }
     }
 
+    /// Takes the step on a tick. Returns whether it was taken.
+    fn tick<R: Wait>(&mut self, rt: &R) -> bool
+        ensures reacts { ReactsTo C.represents (mutex_guard_value self.old.seated) (mutex_guard_value self.new.seated) Event.Tick self.old.replies self.new.replies }
+        ensures owed { self.new.owed ≡ self.old.owed }
+        ensures unsent { self.new.unsent ≡ self.old.unsent }
+    {
+        let history = &self.exit.shared.history;
+        let event = Event::Tick;
+        let token = self.seated.desk.token(history);
+        let arrival = Arrival { event, token };
+        take_event(rt, history, &mut self.seated, arrival, &mut self.replies)
+    }
+
     /// Takes the step of a queued request. A closed node refuses it with `Closed`, since nobody
     /// would answer it.
-    pub(crate) fn take_asked<R: Wait>(&mut self, rt: &R, asked: QueuedAsk)
-        ensures { TakesQueued C.represents (mutex_guard_value self.old.seated) (mutex_guard_value self.new.seated) asked.ask asked.pass asked.caller self.old.replies self.new.replies ⊎ RefusesQueued C.represents (mutex_guard_value self.old.seated) (mutex_guard_value self.new.seated) asked.ask asked.pass asked.caller self.old.replies self.new.replies ⊎ ClosesQueued (mutex_guard_value self.old.seated) (mutex_guard_value self.new.seated) asked.caller self.old.replies self.new.replies }
+    pub(crate) fn take_asked<R: Wait>(&mut self, rt: &R, asked: QueuedAsk<C>)
+        ensures { TakesQueued C.represents (mutex_guard_value self.old.seated) (mutex_guard_value self.new.seated) asked.made.ask asked.pass asked.caller self.old.replies self.new.replies ⊎ RefusesQueued C.represents (mutex_guard_value self.old.seated) (mutex_guard_value self.new.seated) asked.made.name asked.made.ask asked.pass asked.caller self.old.replies self.new.replies ⊎ ClosesQueued (mutex_guard_value self.old.seated) (mutex_guard_value self.new.seated) asked.caller self.old.replies self.new.replies }
     {
         if self.exit.node.is_closed() {
             refuse_asked(rt, asked, &mut self.replies);
-        } else if take_queued(rt, &mut self.seated, asked, &mut self.replies) {
+        } else if take_queued(
+            rt,
+            &self.exit.shared.history,
+            &mut self.seated,
+            asked,
+            &mut self.replies,
+        ) {
             self.post_step(rt);
         }
     }
 
     /// Takes the step of the caller's own request. Returns the reply, or `None` if a completion
     /// will come.
-    pub(crate) fn take_own<R: Wait>(&mut self, rt: &R, own: OwnAsk<'_>) -> Option<Outcome>
-        ensures { TakesOwn C.represents (mutex_guard_value self.old.seated) (mutex_guard_value self.new.seated) own.entry.ask own.entry.caller.pass own.entry.caller.token result self.old.replies self.new.replies ⊎ RefusesOwn C.represents (mutex_guard_value self.old.seated) (mutex_guard_value self.new.seated) own.entry.ask own.entry.caller.pass result self.old.replies self.new.replies ⊎ ClosesOwn (mutex_guard_value self.old.seated) (mutex_guard_value self.new.seated) result self.old.replies self.new.replies }
+    pub(crate) fn take_own<R: Wait>(&mut self, rt: &R, own: OwnAsk<'_, C>) -> Option<Outcome<C>>
+        ensures { TakesOwn C.represents (mutex_guard_value self.old.seated) (mutex_guard_value self.new.seated) own.entry.made.ask own.entry.caller.pass own.entry.caller.token result self.old.replies self.new.replies ⊎ RefusesOwn C.represents (mutex_guard_value self.old.seated) (mutex_guard_value self.new.seated) own.entry.made.name own.entry.made.ask own.entry.caller.pass result self.old.replies self.new.replies ⊎ ClosesOwn (mutex_guard_value self.old.seated) (mutex_guard_value self.new.seated) result self.old.replies self.new.replies }
     {
         if self.exit.node.is_closed() {
             drop(own);
             return Some(Err(Refusal::Closed));
         }
-        let (taken, reply) = take_own(rt, &mut self.seated, own, &mut self.replies);
+        let history = &self.exit.shared.history;
+        let (taken, reply) = take_own(rt, history, &mut self.seated, own, &mut self.replies);
         if taken {
             self.post_step(rt);
         }
@@ -228,12 +261,11 @@ impl<'a, C: Core, G: Gate> NodeBatch<'a, C, G> {
         ensures replies { self.new.replies ≡ self.old.replies }
     {
         let unsent = self.unsent;
-        let cell = self.seated.desk.cell();
-        if let Some(position) = lone_entry_of(cell) {
+        if let Some(position) = lone_entry_of(self.seated.desk.cell()) {
             self.unsent = unsent.with_entry(position);
             return;
         }
-        match lone_ack_of(cell) {
+        match owed_by(&self.exit.shared.history, &mut self.seated) {
             Some(ack) => self.owe(rt, ack),
             None => self.send_step(rt),
         }
@@ -248,14 +280,20 @@ impl<'a, C: Core, G: Gate> NodeBatch<'a, C, G> {
         ensures seated { self.new.seated ≡ self.old.seated }
         ensures replies { self.new.replies ≡ self.old.replies }
     {
-        let sent = sent_by_node(self.exit.alloc, self.seated.desk.cell());
-        if sent.is_empty() {
+        let history = &self.exit.shared.history;
+        let messages = messages_of(
+            self.exit.alloc,
+            &self.exit.node.losses,
+            history,
+            &mut self.seated,
+        );
+        if messages.is_empty() {
             return;
         }
         if let Some(ack) = self.owed.take() {
             self.exit.acknowledge(rt, ack);
         }
-        self.exit.post(rt, sent);
+        self.exit.post(rt, messages);
     }
 
     /// Sends the entries of the node's last step from this position on, and none of its other
@@ -266,12 +304,19 @@ impl<'a, C: Core, G: Gate> NodeBatch<'a, C, G> {
         ensures seated { self.new.seated ≡ self.old.seated }
         ensures replies { self.new.replies ≡ self.old.replies }
     {
-        let sent = entries_by_node(self.exit.alloc, self.seated.desk.cell(), first);
-        self.exit.post(rt, sent);
+        let history = &self.exit.shared.history;
+        let messages = entries_of(
+            self.exit.alloc,
+            &self.exit.node.losses,
+            history,
+            &mut self.seated,
+            first,
+        );
+        self.exit.post(rt, messages);
     }
 
     /// Owes an acknowledgement in place of the one before, if there was one.
-    fn owe<R: Wait>(&mut self, rt: &R, ack: LoneAck)
+    fn owe<R: Wait>(&mut self, rt: &R, ack: OwedAck<C>)
         ensures owed { self.new.owed ≡ Some ack }
         ensures seated { self.new.seated ≡ self.old.seated }
         ensures replies { self.new.replies ≡ self.old.replies }
@@ -282,7 +327,7 @@ impl<'a, C: Core, G: Gate> NodeBatch<'a, C, G> {
     }
 
     /// Sends what was owed before, unless what is owed now makes it needless.
-    fn follow<R: Wait>(&self, rt: &R, before: LoneAck) {
+    fn follow<R: Wait>(&self, rt: &R, before: OwedAck<C>) {
         let needed = match &self.owed {
             Some(ack) => before.give_way(ack),
             None => Some(before),

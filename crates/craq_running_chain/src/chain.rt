@@ -10,6 +10,7 @@ ghost use Rattle.craq_running_node.specs.Routes.{retired, shut};
 
 use crate::rest::Rest;
 use crate::wake_up::WakeUp;
+use craq_ghost_history::Named;
 use craq_locked_chain::ChainBook;
 use craq_model::Config;
 use craq_names::{ChainId, NodeId, Refusal, are_same};
@@ -25,7 +26,7 @@ use std::sync::{Arc, Mutex, RwLock, Wait};
 
 /// The routing table of a chain: the entries of its nodes, and the parts of an open store.
 #[derive(Drop)]
-pub struct RoutingTable<C: Core> {
+pub struct RoutingTable<C: Core + Named> {
     pub nodes: Vec<Route<C>>,
     /// `None` once the store is closed.
     pub open: Option<Open>,
@@ -42,17 +43,17 @@ pub struct Open {
 /// A chain that runs: its name, its id and its first membership, its master's cell under its lock,
 /// its routing table, the wake-up of its chain thread, and the ticks since it last had work.
 #[derive(Drop)]
-pub struct Chain<C: Core> {
+pub struct Chain<C: Core + Named> {
     pub name: String,
     pub id: ChainId,
     pub first: Config,
-    pub book: Mutex<ChainBook>,
+    pub book: Mutex<ChainBook<C>>,
     pub routes: RwLock<RoutingTable<C>>,
     pub wake_up: WakeUp,
     pub rest: Rest,
 }
 
-impl<C: Core> RoutingTable<C> {
+impl<C: Core + Named> RoutingTable<C> {
     /// Returns the parts of an open store, or `Closed` if the store is closed.
     pub(crate) fn open(&self) -> Result<&Open, Refusal>
         ensures { MatchResult result (λ o. self.now.open ≡ Some o.now) (λ e. (e ≡ Refusal.Closed) × IsNone self.now.open) }
@@ -114,7 +115,11 @@ impl<C: Core> RoutingTable<C> {
 
 /// Queues a request. Refused with `Memory` when out of memory and with `Closed` if the queue has no
 /// reader; no completion comes then.
-fn put_in<R: Wait>(rt: &R, entrances: &Entrances, asked: QueuedAsk) -> Result<(), Refusal>
+fn put_in<R: Wait, C: Core + Named>(
+    rt: &R,
+    entrances: &Entrances<C>,
+    asked: QueuedAsk<C>,
+) -> Result<(), Refusal>
     ensures { IfErr result (λ e. (e ≡ Refusal.Memory) ⊎ (e ≡ Refusal.Closed)) }
 {
     match entrances.asks.send(rt, asked) {
@@ -125,15 +130,19 @@ fn put_in<R: Wait>(rt: &R, entrances: &Entrances, asked: QueuedAsk) -> Result<()
 }
 
 /// Takes back a request that was not queued, and returns the refusal: no completion comes.
-pub(crate) fn take_back<R: Wait>(rt: &R, asked: QueuedAsk, refusal: Refusal) -> Result<(), Refusal>
+pub(crate) fn take_back<R: Wait, C: Core + Named>(
+    rt: &R,
+    asked: QueuedAsk<C>,
+    refusal: Refusal,
+) -> Result<(), Refusal>
     ensures { result ≡ Err refusal }
 {
     let QueuedAsk {
-        ask,
+        made,
         pass: _,
         caller,
     } = asked;
-    drop(ask);
+    drop(made);
     caller.forgo(rt);
     Err(refusal)
 }
@@ -148,7 +157,7 @@ fn first_members(opening: &Opening) -> &[NodeId]
     }
 }
 
-impl<C: Core> Chain<C> {
+impl<C: Core + Named> Chain<C> {
     /// Returns whether a master's cell was opened as that of this chain. A proof knows nothing of
     /// what a lock holds, so this is tested.
     pub fn has_opened(&self, opening: &Opening) -> bool
@@ -178,7 +187,7 @@ impl<C: Core> Chain<C> {
         &self,
         rt: &R,
         id: NodeId,
-        asked: QueuedAsk,
+        asked: QueuedAsk<C>,
     ) -> Result<(), Refusal>
         ensures { IfErr result (λ e. IsMissed e) }
     {
@@ -228,7 +237,7 @@ impl<C: Core> Chain<C> {
 
     /// Brings something to the node of this id. It is lost if there is no such node, and when out
     /// of memory.
-    pub(crate) fn forward<R: Wait>(&self, rt: &R, id: NodeId, brought: Delivery) {
+    pub(crate) fn forward<R: Wait>(&self, rt: &R, id: NodeId, brought: Delivery<C>) {
         if let Delivery::Blank(_) = &brought {
             self.rest.end();
         }
@@ -316,9 +325,9 @@ impl<C: Core> Chain<C> {
 
 /// Refuses with `Closed` the callers that wait at a node, those whose requests are queued there,
 /// and all that ask later.
-fn empty<R: Wait, C: Core>(rt: &R, alloc: Global, node: &RunningNode<C>) {
+fn empty<R: Wait, C: Core + Named>(rt: &R, alloc: Global, node: &RunningNode<C>) {
     node.close();
-    let mut seated = node.seat.lock(rt);
+    let mut seated = node.lock(rt);
     let callers = dismiss(alloc, &mut seated);
     drop(seated);
     refuse_callers(rt, alloc, callers, &Refusal::Closed);
@@ -326,17 +335,17 @@ fn empty<R: Wait, C: Core>(rt: &R, alloc: Global, node: &RunningNode<C>) {
 }
 
 /// Refuses the callers whose requests are queued at a node.
-pub fn refuse_queued<R: Wait, C: Core>(rt: &R, node: &RunningNode<C>, refusal: &Refusal) {
+pub fn refuse_queued<R: Wait, C: Core + Named>(rt: &R, node: &RunningNode<C>, refusal: &Refusal) {
     for _ in rt.forever() {
         let Ok(asked) = node.queues.asks.try_recv(rt) else {
             break;
         };
         let QueuedAsk {
-            ask,
+            made,
             pass: _,
             caller,
         } = asked;
-        drop(ask);
+        drop(made);
         caller.tell(rt, Err(*refusal));
     }
 }

@@ -3,6 +3,7 @@
 use crate::batch::NodeBatch;
 use crate::chain::Chain;
 use crate::shared::{Shared, Wakes};
+use craq_ghost_history::Named;
 use craq_names::{ChainId, Refusal};
 use craq_node::Core;
 use craq_running_node::{Gate, RunningNode, SeatedNode, Work};
@@ -19,7 +20,7 @@ const ASKS: u32 = 8;
 const ROUNDS: u32 = 3;
 
 /// Takes what waits at a node in a batch: messages first, then requests.
-fn take_waiting<R: Wait, C: Core, G: Gate>(
+fn take_waiting<R: Wait, C: Core + Named, G: Gate>(
     rt: &R,
     node: &RunningNode<C>,
     batch: &mut NodeBatch<'_, C, G>,
@@ -48,20 +49,20 @@ enum LockMode {
 }
 
 /// Locks a node, or returns `None` if another thread has the lock and the visitor passes by.
-fn seat_of<'a, R: Wait, C: Core>(
+fn seat_of<'a, R: Wait, C: Core + Named>(
     rt: &R,
     node: &'a RunningNode<C>,
     mode: LockMode,
 ) -> Option<MutexGuard<'a, SeatedNode<C>>> {
     match mode {
-        LockMode::Waits => Some(node.seat.lock(rt)),
-        LockMode::PassesBy => node.seat.try_lock(),
+        LockMode::Waits => Some(node.lock(rt)),
+        LockMode::PassesBy => node.try_lock(),
     }
 }
 
 /// Takes a batch of a node, if anything waits there. Returns whether anything did: if the node was
 /// passed by, that may still wait.
-fn visit<R: Wait, C: Core, G: Gate>(
+fn visit<R: Wait, C: Core + Named, G: Gate>(
     rt: &R,
     shared: &Shared<C, G>,
     node: &RunningNode<C>,
@@ -86,7 +87,7 @@ fn visit<R: Wait, C: Core, G: Gate>(
 /// Returns whether anything waited.
 ///
 /// So the head takes no two batches in a row: nobody could acknowledge the first before the second.
-fn visit_all<R: Wait, C: Core, G: Gate>(
+fn visit_all<R: Wait, C: Core + Named, G: Gate>(
     rt: &R,
     shared: &Shared<C, G>,
     nodes: &[Arc<RunningNode<C>>],
@@ -106,7 +107,7 @@ fn visit_all<R: Wait, C: Core, G: Gate>(
 
 /// Runs a chain until its store is closed: takes batches of its nodes as long as anything waits,
 /// then sleeps. Out of memory for the list of the nodes, waits a little and tries again.
-pub(crate) fn run_chain_thread<R: Wait, C: Core, G: Gate>(
+pub(crate) fn run_chain_thread<R: Wait, C: Core + Named, G: Gate>(
     rt: &R,
     shared: &Shared<C, G>,
     id: ChainId,
@@ -125,7 +126,7 @@ pub(crate) fn run_chain_thread<R: Wait, C: Core, G: Gate>(
 }
 
 /// Runs these nodes until the chain has others.
-fn run_nodes<R: Wait, C: Core, G: Gate>(
+fn run_nodes<R: Wait, C: Core + Named, G: Gate>(
     rt: &R,
     shared: &Shared<C, G>,
     chain: &Chain<C>,
@@ -150,7 +151,7 @@ fn run_nodes<R: Wait, C: Core, G: Gate>(
 
 /// Carries what a caller's step sent on to the other nodes, for at most `ROUNDS` rounds. The chain
 /// thread takes what still waits then.
-pub(crate) fn run_inline<R: Wait, C: Core, G: Gate>(
+pub(crate) fn run_inline<R: Wait, C: Core + Named, G: Gate>(
     rt: &R,
     shared: &Shared<C, G>,
     chain: &Chain<C>,

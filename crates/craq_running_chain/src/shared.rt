@@ -8,22 +8,29 @@ ghost use Rattle.craq_running_chain.specs.Asks.{IsPut, IsServed, IsRejected, in_
 use crate::batch::NodeBatch;
 use crate::chain::Chain;
 use crate::chain_thread::run_inline;
-use bytes::Bytes;
-use craq_completions::{CompletionSender, Outcome};
+use craq_completions::CompletionSender;
+use craq_ghost_history::{Named, Registrar};
 use craq_model::Ask;
-use craq_names::{ChainId, Copied, NodeId, NodeName, Refusal};
+use craq_names::{ChainId, NodeId, NodeName, Refusal};
 use craq_node::Core;
 use craq_pending_calls::{is_update, refusal_of_call};
-use craq_running_node::{AskingCaller, Delivery, Gate, OwnAsk, QueuedAsk, RunningNode, Work};
-use craq_seat::CallReceipt;
-use craq_sending::{Kind, Sent};
+use craq_running_node::{
+    AskingCaller, Delivery, Gate, Outcome, OwnAsk, QueuedAsk, RunningNode, Work,
+};
+use craq_sending::Kind;
+use craq_store_history::{Entry, StoreRule};
+use craq_store_parts::{AnsweredCall, Messages, Outgoing, StoreHistory, Wire};
 use std::alloc::Global;
-use std::sync::Wait;
+use std::sync::{Mutex, Wait};
 
 /// The state that the workers, the clients and the store itself share.
 #[derive(Drop)]
-pub struct Shared<C: Core, G: Gate> {
+pub struct Shared<C: Core + Named, G: Gate> {
     pub alloc: Global,
+    /// The history of what the store does. It exists in the proofs alone, except one word.
+    pub history: StoreHistory<C>,
+    /// Gives the rights to the entries of nodes and clients.
+    pub registrar: Mutex<Registrar<Entry, StoreRule, C>>,
     pub gate: G,
     /// One thread runs each chain: the gate's reply when the store started.
     pub chain_threads: bool,
@@ -44,7 +51,7 @@ pub enum Wakes {
 }
 
 /// Returns the receipt or the refusal that is in hand, or `None` if a completion will come.
-fn in_hand(reply: Option<Outcome>) -> Result<Option<CallReceipt>, Refusal>
+fn in_hand<C: Core + Named>(reply: Option<Outcome<C>>) -> Result<Option<AnsweredCall<C>>, Refusal>
     ensures ok { IfOk result (λ found. reply ≡ option_map Ok found) }
     ensures err { IfErr result (λ e. reply ≡ Some (Err e)) }
 {
@@ -65,14 +72,31 @@ fn beside(other: &NodeName, id: NodeId) -> NodeName
     }
 }
 
-/// Brings a message to a node of a chain before its sender does, if memory allows.
-fn forward_copy<R: Wait, C: Core>(rt: &R, chain: &Chain<C>, to: NodeId, kind: Kind, bytes: &Bytes) {
-    if let Ok(copy) = bytes.clone() {
-        chain.forward(rt, to, Delivery::of(kind, copy));
+/// A link between two nodes of a chain, for a message of this class.
+#[derive(Drop)]
+struct Link<'a, C: Core + Named> {
+    history: &'a StoreHistory<C>,
+    chain: &'a Chain<C>,
+    to: NodeId,
+    kind: Kind,
+}
+
+impl<'a, C: Core + Named> Link<'a, C> {
+    /// Brings a message to a node of a chain before its sender does, if memory allows.
+    fn forward_copy<R: Wait>(&self, rt: &R, wire: &mut Wire<C>) {
+        if let Ok(copy) = wire.again(self.history) {
+            self.forward(rt, copy);
+        }
+    }
+
+    /// Brings a message to a node of a chain.
+    fn forward<R: Wait>(&self, rt: &R, wire: Wire<C>) {
+        self.chain
+            .forward(rt, self.to, Delivery::of(self.kind, wire));
     }
 }
 
-impl<C: Core, G: Gate> Shared<C, G> {
+impl<C: Core + Named, G: Gate> Shared<C, G> {
     /// Returns the chain of this id, or `UnknownChain`.
     pub fn chain(&self, id: ChainId) -> Result<&Chain<C>, Refusal>
         ensures there { OnOk result (id < length self.now.chains.items) }
@@ -86,28 +110,42 @@ impl<C: Core, G: Gate> Shared<C, G> {
     }
 
     /// Sends messages, in order.
-    pub fn post<R: Wait>(&self, rt: &R, from: &NodeName, sent: Vec<Sent>, wakes: Wakes) {
-        for message in sent {
-            self.send(rt, from, message, wakes);
+    pub fn post<R: Wait>(&self, rt: &R, from: &NodeName, messages: Messages<C>, wakes: Wakes) {
+        let mut messages = messages;
+        while let Some(outgoing) = messages.next(&self.history) {
+            self.send(rt, from, outgoing, wakes);
         }
     }
 
     /// Sends a message. It is lost if the gate does not carry it, and sent twice if the gate
     /// repeats it and memory allows.
-    pub(crate) fn send<R: Wait>(&self, rt: &R, from: &NodeName, message: Sent, wakes: Wakes) {
-        let Sent { to, kind, bytes } = message;
+    pub(crate) fn send<R: Wait>(
+        &self,
+        rt: &R,
+        from: &NodeName,
+        outgoing: Outgoing<C>,
+        wakes: Wakes,
+    ) {
+        let Outgoing { to, kind, wire } = outgoing;
         let Ok(chain) = self.chain(from.chain) else {
-            drop(bytes);
+            drop(wire);
             return;
         };
         if !self.gate.carries(*from, beside(from, to)) {
-            drop(bytes);
+            drop(wire);
             return;
         }
+        let link = Link {
+            history: &self.history,
+            chain,
+            to,
+            kind,
+        };
+        let mut wire = wire;
         if self.gate.repeats(*from, beside(from, to)) {
-            forward_copy(rt, chain, to, kind, &bytes);
+            link.forward_copy(rt, &mut wire);
         }
-        chain.forward(rt, to, Delivery::of(kind, bytes));
+        link.forward(rt, wire);
         match wakes {
             Wakes::ChainThread => chain.wake_up.ring(),
             Wakes::Nobody => (),
@@ -115,10 +153,10 @@ impl<C: Core, G: Gate> Shared<C, G> {
     }
 
     /// Takes the step of one queued request: a piece of a node's work on requests.
-    pub(crate) fn serve_queued<R: Wait>(&self, rt: &R, node: &RunningNode<C>, asked: QueuedAsk) {
+    pub(crate) fn serve_queued<R: Wait>(&self, rt: &R, node: &RunningNode<C>, asked: QueuedAsk<C>) {
         let count = node.next_piece();
         self.gate.before(node.name, Work::Asks, count);
-        let mut batch = NodeBatch::begin(self, node, node.seat.lock(rt), Wakes::ChainThread);
+        let mut batch = NodeBatch::begin(self, node, node.lock(rt), Wakes::ChainThread);
         self.gate.within(node.name, Work::Asks, count);
         batch.take_asked(rt, asked);
         batch.end(rt);
@@ -131,14 +169,14 @@ impl<C: Core, G: Gate> Shared<C, G> {
         &self,
         rt: &R,
         node: &RunningNode<C>,
-        own: OwnAsk<'_>,
+        own: OwnAsk<'_, C>,
         wakes: Wakes,
-    ) -> Option<Outcome>
-        ensures { IsServed C.represents own.entry.ask own.entry.caller.pass own.entry.caller.token result }
+    ) -> Option<Outcome<C>>
+        ensures { IsServed C.represents own.entry.made.name own.entry.made.ask own.entry.caller.pass own.entry.caller.token result }
     {
         let count = node.next_piece();
         self.gate.before(node.name, Work::Asks, count);
-        let mut batch = NodeBatch::begin(self, node, node.seat.lock(rt), wakes);
+        let mut batch = NodeBatch::begin(self, node, node.lock(rt), wakes);
         self.gate.within(node.name, Work::Asks, count);
         let reply = batch.take_own(rt, own);
         batch.end(rt);
@@ -146,37 +184,21 @@ impl<C: Core, G: Gate> Shared<C, G> {
         reply
     }
 
-    /// Sends a request to a node of this chain. Returns the receipt of the call, or `None` if a
+    /// Sends a request to a node of this chain. Returns the reply to the call, or `None` if a
     /// completion will come. A refusal that such a request cannot have becomes `Closed`.
     pub fn submit<R: Wait>(
         &self,
         rt: &R,
         chain: &Chain<C>,
-        name: &NodeName,
         ask: &Ask,
-        caller: AskingCaller<'_>,
-    ) -> Result<Option<CallReceipt>, Refusal>
+        own: OwnAsk<'_, C>,
+    ) -> Result<Option<AnsweredCall<C>>, Refusal>
+        requires { own.made.ask ≡ ask.now }
         ensures refused { IfErr result (λ e. CanRefuse ask.now e) }
-        ensures put { IsPut C.represents self.now.chain_threads ask.now caller.entry.pass caller.entry.token (in_hand result) }
+        ensures put { IsPut C.represents self.now.chain_threads own.entry.made.name ask.now own.entry.caller.pass own.entry.caller.token (in_hand result) }
     {
-        let AskingCaller {
-            pass,
-            completions,
-            token,
-            light_load,
-        } = caller;
         chain.rest.end();
-        let asked = ask.copied(self.alloc)?;
-        let own = OwnAsk {
-            ask: asked,
-            caller: AskingCaller {
-                pass,
-                completions,
-                token,
-                light_load,
-            },
-        };
-        match self.submit_own(rt, chain, name, own) {
+        match self.submit_own(rt, chain, own) {
             Ok(found) => Ok(found),
             Err(refusal) => Err(refusal_of_call(ask, refusal)),
         }
@@ -188,18 +210,17 @@ impl<C: Core, G: Gate> Shared<C, G> {
         &self,
         rt: &R,
         chain: &Chain<C>,
-        name: &NodeName,
-        own: OwnAsk<'_>,
-    ) -> Result<Option<CallReceipt>, Refusal>
-        ensures { IsPut C.represents self.now.chain_threads own.entry.ask own.entry.caller.pass own.entry.caller.token (in_hand result) }
+        own: OwnAsk<'_, C>,
+    ) -> Result<Option<AnsweredCall<C>>, Refusal>
+        ensures { IsPut C.represents self.now.chain_threads own.entry.made.name own.entry.made.ask own.entry.caller.pass own.entry.caller.token (in_hand result) }
     {
         let in_place = self.in_place;
         if self.chain_threads {
-            self.submit_to_chain_thread(rt, chain, name, own)
+            self.submit_to_chain_thread(rt, chain, own)
         } else if in_place {
-            in_hand(self.serve_at(rt, chain, name, own, Wakes::ChainThread))
+            in_hand(self.serve_at(rt, chain, own, Wakes::ChainThread))
         } else {
-            queue(rt, chain, name, own)
+            queue(rt, chain, own)
         }
     }
 
@@ -210,19 +231,18 @@ impl<C: Core, G: Gate> Shared<C, G> {
         &self,
         rt: &R,
         chain: &Chain<C>,
-        name: &NodeName,
-        own: OwnAsk<'_>,
-    ) -> Result<Option<CallReceipt>, Refusal>
-        ensures { IsPut C.represents self.now.chain_threads own.entry.ask own.entry.caller.pass own.entry.caller.token (in_hand result) }
+        own: OwnAsk<'_, C>,
+    ) -> Result<Option<AnsweredCall<C>>, Refusal>
+        ensures { IsPut C.represents self.now.chain_threads own.entry.made.name own.entry.made.ask own.entry.caller.pass own.entry.caller.token (in_hand result) }
     {
-        if !is_update(&own.ask) {
-            in_hand(self.serve_at(rt, chain, name, own, Wakes::ChainThread))
+        if !is_update(own.made.ask()) {
+            in_hand(self.serve_at(rt, chain, own, Wakes::ChainThread))
         } else if own.caller.light_load && chain.wake_up.is_idle() {
-            let reply = self.serve_at(rt, chain, name, own, Wakes::Nobody);
+            let reply = self.serve_at(rt, chain, own, Wakes::Nobody);
             run_inline(rt, self, chain);
             in_hand(reply)
         } else {
-            let queued = queue(rt, chain, name, own);
+            let queued = queue(rt, chain, own);
             chain.wake_up.ring();
             queued
         }
@@ -234,13 +254,12 @@ impl<C: Core, G: Gate> Shared<C, G> {
         &self,
         rt: &R,
         chain: &Chain<C>,
-        name: &NodeName,
-        own: OwnAsk<'_>,
+        own: OwnAsk<'_, C>,
         wakes: Wakes,
-    ) -> Option<Outcome>
-        ensures { IsServed C.represents own.entry.ask own.entry.caller.pass own.entry.caller.token result ⊎ IsRejected result }
+    ) -> Option<Outcome<C>>
+        ensures { IsServed C.represents own.entry.made.name own.entry.made.ask own.entry.caller.pass own.entry.caller.token result ⊎ IsRejected result }
     {
-        match chain.node(rt, name.node) {
+        match chain.node(rt, own.made.name().node) {
             Err(refusal) => {
                 drop(own);
                 Some(Err(refusal))
@@ -251,26 +270,26 @@ impl<C: Core, G: Gate> Shared<C, G> {
 }
 
 /// Queues a request for its node: a completion will come.
-fn queue<R: Wait, C: Core>(
+fn queue<R: Wait, C: Core + Named>(
     rt: &R,
     chain: &Chain<C>,
-    name: &NodeName,
-    own: OwnAsk<'_>,
-) -> Result<Option<CallReceipt>, Refusal>
+    own: OwnAsk<'_, C>,
+) -> Result<Option<AnsweredCall<C>>, Refusal>
     ensures { MatchResult result (λ found. found ≡ None) (λ e. IsMissed e) }
 {
     let OwnAsk {
-        ask,
+        made,
         caller: asking,
     } = own;
+    let node = made.name().node;
     match CompletionSender::expect(rt, asking.completions, asking.token) {
         Err(_) => {
-            drop(ask);
+            drop(made);
             Err(Refusal::Memory)
         }
         Ok(caller) => {
             let pass = asking.pass;
-            chain.enqueue(rt, name.node, QueuedAsk { ask, pass, caller })?;
+            chain.enqueue(rt, node, QueuedAsk { made, pass, caller })?;
             Ok(None)
         }
     }

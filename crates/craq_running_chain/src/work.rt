@@ -6,17 +6,17 @@ use crate::batch::NodeBatch;
 use crate::chain::Chain;
 use crate::chain_thread::run_chain_thread;
 use crate::shared::{Shared, Wakes};
-use craq_names::{ChainId, NodeId, NodeName, Pass};
+use craq_ghost_history::Named;
+use craq_names::{ChainId, NodeId, NodeName};
 use craq_node::Core;
-use craq_running_node::{Gate, RunningNode, Waiting, Work, sent_by_book};
-use craq_seat::BookEvent;
-use craq_sending::Sent;
+use craq_running_node::{Gate, RunningNode, Waiting, Work};
+use craq_store_parts::Messages;
 use crossbeam_channel::{Receiver, Sender};
 use std::sync::{Arc, Wait};
 
 /// The task of a thread of the store.
 #[derive(Drop)]
-pub enum Worker<C: Core> {
+pub enum Worker<C: Core + Named> {
     /// Takes the requests that are queued for a node.
     Asks(Arc<RunningNode<C>>),
     /// Takes what arrives at a node, and its ticks.
@@ -29,7 +29,7 @@ pub enum Worker<C: Core> {
 
 /// Works until no sender is left, or, as a chain thread, until the store is closed. Drops `alive`
 /// last, since `close` waits for that.
-pub fn run_worker<R: Wait, C: Core, G: Gate>(
+pub fn run_worker<R: Wait, C: Core + Named, G: Gate>(
     rt: &R,
     shared: Arc<Shared<C, G>>,
     worker: Worker<C>,
@@ -45,7 +45,11 @@ pub fn run_worker<R: Wait, C: Core, G: Gate>(
     drop(alive);
 }
 
-fn take_asks<R: Wait, C: Core, G: Gate>(rt: &R, shared: &Shared<C, G>, node: &RunningNode<C>) {
+fn take_asks<R: Wait, C: Core + Named, G: Gate>(
+    rt: &R,
+    shared: &Shared<C, G>,
+    node: &RunningNode<C>,
+) {
     for _ in rt.forever() {
         let Ok(asked) = node.queues.asks.recv(rt) else {
             break;
@@ -54,7 +58,11 @@ fn take_asks<R: Wait, C: Core, G: Gate>(rt: &R, shared: &Shared<C, G>, node: &Ru
     }
 }
 
-fn take_links<R: Wait, C: Core, G: Gate>(rt: &R, shared: &Shared<C, G>, node: &RunningNode<C>) {
+fn take_links<R: Wait, C: Core + Named, G: Gate>(
+    rt: &R,
+    shared: &Shared<C, G>,
+    node: &RunningNode<C>,
+) {
     let mut count = 0u64;
     for _ in rt.forever() {
         let Ok(waiting) = node.queues.links.recv(rt) else {
@@ -68,20 +76,20 @@ fn take_links<R: Wait, C: Core, G: Gate>(rt: &R, shared: &Shared<C, G>, node: &R
 }
 
 /// Takes one step of a node on a message or a tick.
-fn deliver<R: Wait, C: Core, G: Gate>(
+fn deliver<R: Wait, C: Core + Named, G: Gate>(
     rt: &R,
     shared: &Shared<C, G>,
     node: &RunningNode<C>,
-    waiting: Waiting,
+    waiting: Waiting<C>,
     count: u64,
 ) {
-    let mut batch = NodeBatch::begin(shared, node, node.seat.lock(rt), Wakes::ChainThread);
+    let mut batch = NodeBatch::begin(shared, node, node.lock(rt), Wakes::ChainThread);
     shared.gate.within(node.name, Work::Deliveries, count);
     batch.take_brought(rt, waiting);
     batch.end(rt);
 }
 
-fn take_ticks<R: Wait, C: Core, G: Gate>(
+fn take_ticks<R: Wait, C: Core + Named, G: Gate>(
     rt: &R,
     shared: &Shared<C, G>,
     id: ChainId,
@@ -99,30 +107,33 @@ fn take_ticks<R: Wait, C: Core, G: Gate>(
 }
 
 /// Ticks a master: one piece of its work.
-fn announce<R: Wait, C: Core, G: Gate>(rt: &R, shared: &Shared<C, G>, name: &NodeName, count: u64) {
+fn announce<R: Wait, C: Core + Named, G: Gate>(
+    rt: &R,
+    shared: &Shared<C, G>,
+    name: &NodeName,
+    count: u64,
+) {
     let Ok(chain) = shared.chain(name.chain) else {
         return;
     };
     shared.gate.before(*name, Work::Deliveries, count);
-    let sent = tick(rt, shared, chain, name, count);
-    shared.post(rt, name, sent, Wakes::ChainThread);
+    if let Some(messages) = tick(rt, shared, chain, name, count) {
+        shared.post(rt, name, messages, Wakes::ChainThread);
+    }
     shared.gate.after(*name, Work::Deliveries, count);
 }
 
-/// Ticks a master under its lock, and returns what it sends.
-fn tick<R: Wait, C: Core, G: Gate>(
+/// Ticks a master under its lock, and returns what it sends, if it took the step.
+fn tick<R: Wait, C: Core + Named, G: Gate>(
     rt: &R,
     shared: &Shared<C, G>,
     chain: &Chain<C>,
     name: &NodeName,
     count: u64,
-) -> Vec<Sent> {
+) -> Option<Messages<C>> {
     let mut book = chain.book.lock(rt);
     shared.gate.within(*name, Work::Deliveries, count);
-    match book.take(shared.alloc, BookEvent::Tick, Pass::start()) {
-        Ok(_) => sent_by_book(shared.alloc, book.cell()),
-        Err(_) => Vec::new(shared.alloc),
-    }
+    book.tick(shared.alloc, &shared.history)
 }
 
 /// Returns the name of a chain's master.

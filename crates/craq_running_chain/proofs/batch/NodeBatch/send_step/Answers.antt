@@ -1,4 +1,4 @@
-use Rattle.std.proofs.Common.{◌≡◌, refl}
+use Rattle.std.proofs.Common.{refl, length}
 use Rattle.craq_locked_chain.specs.Held.{cell_in}
 use Rattle.craq_seat.specs.Cells.{receipt_of}
 use Rattle.craq_running_chain.proofs.Owed.{still}
@@ -6,5 +6,13 @@ use Rattle.craq_running_chain.proofs.batch.NodeBatch.send_step.Goals as goal
 
 pub returns-clause-still : goal.returns-clause-still
 returns-clause-still g c =
-    let same : c.cell.result.now.last ≡ (cell_in c.args.self.now.seated).last = rw c.cell.ensures (rw c.deref.ensures refl) in
-    still (cell_in c.args.self.now.seated) c.cell.result.now.last (receipt_of c.cell.result.now) c.sent_by_node-sent.result.items c.sent_by_node-sent.result.len c.args.self.now.owed c.take.new.self c.is_empty.result same c.sent_by_node-sent.result.ok.0 c.is_empty.ensures c.if-is_empty.false c.sent_by_node-sent.ensures.sent
+    let cell = cell_in c.args.self.now.seated in
+    let sent = c.messages_of-messages.result.sent in
+    still cell cell.last (receipt_of cell) sent (length sent) c.args.self.now.owed c.take.new.self c.is_empty.result refl refl c.is_empty.ensures c.if-is_empty.false
+    (rw c.deref_mut.ensures.value at c.messages_of-messages.ensures.sent)
+
+pub returns-then-is_empty-clause-seated : goal.returns-then-is_empty-clause-seated
+returns-then-is_empty-clause-seated g c = rw (c.messages_of-messages.ensures.same, c.deref_mut.ensures.value)
+
+pub returns-clause-seated : goal.returns-clause-seated
+returns-clause-seated g c = rw (c.messages_of-messages.ensures.same, c.deref_mut.ensures.value)

@@ -1,5 +1,5 @@
 use Rattle.std.proofs.Common.{inl, inr, sym}
-use Rattle.craq_running_chain.proofs.batch.NodeBatch.step.Goals as goal
+use Rattle.craq_running_chain.proofs.batch.NodeBatch.deliver.Goals as goal
 
 pub returns-then-take_event : goal.returns-then-take_event
 returns-then-take_event g c =

@@ -17,6 +17,7 @@ use Rattle.craq_seat.specs.declared.journal.BookEvent.{BookEvent}
 use Rattle.craq_seat.specs.declared.journal.BookEvent.TheVariants as books
 use Rattle.craq_seat.specs.declared.journal.Receipt.{Receipt}
 use Rattle.craq_seat.specs.Books.{book_step, tells}
+use Rattle.craq_seat.specs.Calls.{receipt_in}
 use Rattle.craq_seat.specs.Cells.{CanWant, Celled, cell_step, recorded, stamped, with_inside}
 use Rattle.craq_seat.specs.Journal.{Stepping}
 use Rattle.craq_seat.specs.Kept.{IsKept}
@@ -119,3 +120,8 @@ removal_refused old new stopped stop pass (Ok receipt) h = tt
 removal_refused old new stopped stop pass (Err e) h =
     let event : BookEvent = books.Remove stopped stop in
     wanted IsKeptIn (CanWant old stop.stamp pass (IsOk (book_step old.inside event))) e (cell_step book_step old event stop.stamp pass) tt (unstepped IsKeptIn book_step old event stop.stamp pass tt (not_removed old.inside stopped stop)) h.0
+
+-- also where a join gives more than its receipt
+pub join_refused_so : {X : Type 0} (old new : Celled Mastered BookEvent) (id pass : ℕ) (r : Result (Receipt × X) Refusal) → TakesTransition old new (books.Join id) pass (receipt_in r) → IfErr r CanJoin
+join_refused_so old new id pass (Ok x) h = tt
+join_refused_so old new id pass (Err e) h = join_refused old new id pass (Err e) h

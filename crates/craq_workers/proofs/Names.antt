@@ -1,13 +1,15 @@
 -- The chains of a store have the names of its plan, and masters of its members.
-use Rattle.std.proofs.Common.{◌≡◌, ◌≤◌, ◌<◌, ◌⊎◌, ℕ, ◌+◌, List, [], ◌∷◌, ◌++◌, map, drop, length, get_or, Option, None, Some, Ok, Err, inl, inr, sym, ap, ◌∙◌, append_assoc}
+use Rattle.std.proofs.Common.{◌≡◌, ◌≤◌, ◌<◌, ◌⊎◌, ℕ, zero, suc, ◌+◌, List, [], ◌∷◌, ◌++◌, map, drop, length, get_or, Option, None, Some, Ok, Err, inl, inr, sym, ap, subst, ◌∙◌, append_assoc}
 use Rattle.std.specs.Prelude.{slice_get}
+use Rattle.std.specs.List.{AllByRecursion}
 use Rattle.std.specs.Option.{ok_or}
 use Rattle.std.proofs.lemmas.List.{append-nil, drop_all, drop_more, map-append}
 use Rattle.std.proofs.lemmas.Option.{get_or_from_slice_get, slice_get_cases, slice_get_within}
 use Rattle.craq_names.specs.declared.refusal.Refusal.{Refusal}
 use Rattle.craq_names.specs.declared.refusal.Refusal.TheVariants.{UnknownChain}
 use Rattle.craq_place.specs.Place.{chain_at}
-use Rattle.craq_place.specs.Plan.{Chain}
+use Rattle.craq_model.specs.Members.{IsMembership}
+use Rattle.craq_place.specs.Plan.{Chain, IsChain, IsPlan}
 use Rattle.craq_epochs.specs.Mastered.{Mastered, opened_master}
 use Rattle.craq_workers.specs.Stores.{masters_of}
 
@@ -63,3 +65,12 @@ ends p id e isnt (inr h) = h.0
 -- there is no chain of this id
 pub none_left : (p : List Chain) (id : ℕ) (e : Refusal) → chain_at p id ≡ Err e → length p ≤ id
 none_left p id e isnt = ends p id e isnt (slice_get_cases p id).1
+
+in_each : (P : Chain → Type 0) (xs : List Chain) (i : ℕ) (x : Chain) → AllByRecursion P xs → slice_get xs i ≡ Some x → P x
+in_each P [] i x a h = absurd cc
+in_each P (y ∷ ys) zero x a h = let e : y ≡ x = cc in subst P e a.0
+in_each P (y ∷ ys) (suc i) x a h = in_each P ys i x a.1 h
+
+-- the members of a plan's chain are a membership
+pub membership_at : (p : List Chain) (id : ℕ) (x : Chain) → IsPlan p → chain_at p id ≡ Ok x → IsMembership x.1
+membership_at p id x plan e = let c : IsChain x = in_each IsChain p id x plan.each (found (slice_get p id) x e) in c.nodes

@@ -5,7 +5,7 @@ ghost use Rattle.craq_workers.specs.Stores.{AuditAnswers};
 
 use crate::store::Store;
 use craq_audit::Audit;
-use craq_completions::CompletionSender;
+use craq_ghost_history::Named;
 use craq_locked_chain::LockedChain;
 use craq_names::{ChainId, Refusal};
 use craq_node::Core;
@@ -15,7 +15,7 @@ use std::alloc::{AllocError, Global};
 use std::sync::{Arc, MutexGuard, Wait};
 
 /// Locks all nodes, in order. Fails only when out of memory, and then holds no lock.
-fn lock_all<'a, R: Wait, C: Core>(
+fn lock_all<'a, R: Wait, C: Core + Named>(
     rt: &R,
     alloc: Global,
     nodes: &'a [Arc<RunningNode<C>>],
@@ -24,19 +24,19 @@ fn lock_all<'a, R: Wait, C: Core>(
 {
     let mut seats = Vec::new(alloc);
     for node in nodes {
-        seats.push(node.seat.lock(rt))?;
+        seats.push(node.lock(rt))?;
     }
     Ok(seats)
 }
 
 /// Returns the cells of a chain: its master's, whose lock is held, and those of these nodes, which
 /// are locked here. Fails only when out of memory. An audit locks nodes nowhere else.
-fn lock_chain<'b, 's, R: Wait, C: Core>(
+fn lock_chain<'b, 's, R: Wait, C: Core + Named>(
     rt: &R,
     alloc: Global,
     book: &'b BookCell,
     nodes: &'s [Arc<RunningNode<C>>],
-) -> Result<LockedChain<'b, 's, C, CompletionSender>, AllocError>
+) -> Result<LockedChain<'b, 's, C>, AllocError>
     ensures book { IfOk result (λ held. held.book ≡ book.now) }
     ensures cells { IfOk result (λ held. length held.cells ≡ length nodes.now) }
 {
@@ -44,7 +44,7 @@ fn lock_chain<'b, 's, R: Wait, C: Core>(
     LockedChain::new(alloc, book, seats)
 }
 
-impl<C: Core + Send + 'static, G: Gate + Send + Sync + 'static> Store<C, G> {
+impl<C: Core + Named + Send + 'static, G: Gate + Send + Sync + 'static> Store<C, G> {
     /// Audits a chain: merges the journals of its cells, and looks for the calls of these receipts
     /// in them (`LockedChain::audit`). Its master and all nodes that it ever had are locked
     /// meanwhile. Changes nothing.

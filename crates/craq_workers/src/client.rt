@@ -1,19 +1,28 @@
 //! `Client`: blocking calls of a store from any thread, one at a time, with the pass that they
-//! raise.
-ghost use Rattle.std.specs.Prelude.{◌≡◌, ◌⊎◌, ◌≤◌, ◌↔◌, max, Err, IfErr, IfOk, Ok, OnErr, length};
+//! raise and the history that they have seen.
+ghost use Rattle.std.specs.Prelude.{◌≡◌, ◌<◌, ◌⊎◌, ◌≤◌, ◌↔◌, max, Err, IfErr, IfOk, Ok, OnErr, length};
+ghost use mathlib.Core.List.{IsPrefix};
+ghost use Rattle.craq_ghost_history.specs.Histories.{AreComparable};
 ghost use Rattle.craq_pending_calls.specs.Calls.{IsCallOf};
 ghost use Rattle.craq_pending_calls.specs.Refused.{CanRefuse};
 ghost use Rattle.craq_running_chain.specs.Asks.{IsCalled};
+ghost use Rattle.craq_store_history.specs.Chains.{IsHistory};
+ghost use Rattle.craq_store_parts.specs.Recorded.{HasAccepted, HasReplied};
+ghost use Rattle.craq_store_parts.specs.Sent.{IsMade};
 ghost use Rattle.craq_workers.specs.Clients.{RefusesAsk, only};
+ghost use Rattle.craq_store_parts.specs.Witnessed.{IsWitnessed};
 
-use craq_completions::{Completion, CompletionQueue, Outcome, Token};
+use craq_completions::{Completion, CompletionQueue, Token};
+use craq_ghost_history::Named;
 use craq_model::{Answer, Ask};
-use craq_names::{NodeName, Pass, Refusal};
+use craq_names::{Copied, NodeName, Pass, Refusal};
 use craq_node::Core;
 use craq_pending_calls::{answer_of_call, pass_after, refusal_of_call};
-use craq_running_chain::{Chain, Shared};
-use craq_running_node::{AskingCaller, Gate};
+use craq_running_chain::Shared;
+use craq_running_node::{AskingCaller, Gate, Outcome, OwnAsk};
 use craq_seat::CallReceipt;
+use craq_store_history::CallId;
+use craq_store_parts::{AnsweredCall, MadeAsk, Session, StoreHistory};
 use std::alloc::Global;
 use std::marker::Model;
 use std::sync::{Arc, Wait};
@@ -24,33 +33,41 @@ const ONLY: Token = Token {
     call: 0,
 };
 
-/// A client of a store, with its pass: the largest stamp that it has seen. A contract sees the pass
-/// and how many chains the store has.
+/// A client of a store, with its pass: the largest stamp that it has seen; and with its session,
+/// which has seen a prefix of the store's history. A contract sees them, and how many chains the
+/// store has.
 #[derive(Drop)]
-pub struct Client<C: Core, G: Gate> {
+pub struct Client<C: Core + Named, G: Gate> {
     alloc: Global,
     shared: Arc<Shared<C, G>>,
     pass: Pass,
+    session: Session<C>,
 }
 
-impl<C: Core, G: Gate> Model for Client<C, G> {
+impl<C: Core + Named, G: Gate> Model for Client<C, G> {
     ghost use Rattle.std.specs.Prelude.{length};
     ghost use Rattle.craq_workers.specs.Clients.{Asker};
 
     ghost Value = { Asker };
 
-    ghost view = { λ c. record { chains = length c.shared.value.chains.items; chain_threads = c.shared.value.chain_threads; pass = c.pass } };
+    ghost view = { λ c. record { chains = length c.shared.value.chains.items; chain_threads = c.shared.value.chain_threads; pass = c.pass; client = c.session.client; seen = c.session.seen } };
 }
 
-impl<C: Core, G: Gate> Client<C, G> {
-    /// Makes a client with this pass. Takes no memory.
-    pub(crate) fn new(alloc: Global, shared: Arc<Shared<C, G>>, pass: Pass) -> Self
-        ensures { result ≡ record { chains = length shared.value.chains.items; chain_threads = shared.value.chain_threads; pass = pass } }
+impl<C: Core + Named, G: Gate> Client<C, G> {
+    /// Makes a client with this pass and session. Takes no memory.
+    pub(crate) fn new(
+        alloc: Global,
+        shared: Arc<Shared<C, G>>,
+        pass: Pass,
+        session: Session<C>,
+    ) -> Self
+        ensures { result ≡ record { chains = length shared.value.chains.items; chain_threads = shared.value.chain_threads; pass = pass; client = session.client; seen = session.seen } }
     {
         Client {
             alloc,
             shared,
             pass,
+            session,
         }
     }
 
@@ -69,13 +86,18 @@ impl<C: Core, G: Gate> Client<C, G> {
     /// until a later tick sends that message again (`Store::tick`): forever, if nobody ticks the
     /// store.
     ///
+    /// The client has then seen a history of the store in which its node accepted this request,
+    /// after all that the client had seen before the call, and gave this answer (`IsWitnessed`).
+    /// So a single copy gives each strong reply after a prefix of the chain's updates, by the law
+    /// `strong_replies_are_of_one_copy` of `craq_running_promise`.
+    ///
     /// Refused, with the pass as it was, with:
     /// - `UnknownChain` exactly if the store has no such chain;
     /// - `WrongNode` if the chain never had the node;
     /// - the refusals of `Desk::take`;
     /// - `Stopped` if the node stops before it answers;
     /// - `Closed` if the store is closed, or closes before the answer, or what came is of another
-    ///   call;
+    ///   call, or the client has made 2^64 - 1 calls;
     /// - `Memory` when out of memory.
     ///
     /// After `Stopped`, `Memory` or `Closed` an update may or may not have taken effect. It may be
@@ -90,11 +112,14 @@ impl<C: Core, G: Gate> Client<C, G> {
         ensures unknown { (result ≡ Err Refusal.UnknownChain) ↔ (self.old.chains ≤ node.chain) }
         ensures refused { IfErr result (λ e. RefusesAsk self.old.chains node ask e) }
         ensures pass { IfOk result (λ r. self.new.pass ≡ max self.old.pass r.1.answered.stamp) }
-        ensures same { OnErr result (self.new ≡ self.old) }
+        ensures same { OnErr result (self.new.pass ≡ self.old.pass) }
         ensures chains { self.new.chains ≡ self.old.chains }
         ensures chain_threads { self.new.chain_threads ≡ self.old.chain_threads }
-        ensures taken { IfOk result (λ r. IsCalled C.represents self.old.chain_threads ask self.old.pass only (Ok r.1)) }
-        ensures left { IfErr result (λ e. (e ≡ Refusal.UnknownChain) ⊎ IsCalled C.represents self.old.chain_threads ask self.old.pass only (Err e)) }
+        ensures client { self.new.client ≡ self.old.client }
+        ensures later { IsPrefix self.old.seen self.new.seen }
+        ensures run { IfOk result (λ r. IsWitnessed self.old.client self.old.seen node ask r.0 r.1 self.new.seen) }
+        ensures taken { IfOk result (λ r. IsCalled C.represents self.old.chain_threads node ask self.old.pass only (Ok r.1)) }
+        ensures left { IfErr result (λ e. (e ≡ Refusal.UnknownChain) ⊎ IsCalled C.represents self.old.chain_threads node ask self.old.pass only (Err e)) }
     {
         let called = self.wait_for(rt, &node, &ask);
         drop(ask);
@@ -103,46 +128,113 @@ impl<C: Core, G: Gate> Client<C, G> {
         Ok((answer, receipt))
     }
 
-    /// Looks for the chain, sends the request, and waits. Returns the answer and the receipt of the
-    /// call.
+    /// Shows that two clients of one store have seen prefixes of one history: one begins with the
+    /// other. Neither changes.
+    pub fn compare(&mut self, other: &mut Self)
+        ensures comparable { AreComparable self.old.seen other.old.seen }
+        ensures this { self.new ≡ self.old }
+        ensures that { other.new ≡ other.old }
+    {
+        let shared = &self.shared;
+        self.session.compare(&shared.history, &mut other.session);
+    }
+
+    /// Looks for the chain, makes the call, sends the request, and waits. Returns the answer and
+    /// the receipt of the call.
     fn wait_for<R: Wait>(
-        &self,
+        &mut self,
         rt: &R,
         node: &NodeName,
         ask: &Ask,
     ) -> Result<(Answer, CallReceipt), Refusal>
-        ensures call { IfOk result (λ r. IsCallOf node.now ask.now self.now.pass r.0 r.1) }
-        ensures unknown { (result ≡ Err Refusal.UnknownChain) ↔ (self.now.chains ≤ node.now.chain) }
-        ensures refused { IfErr result (λ e. RefusesAsk self.now.chains node.now ask.now e) }
-        ensures taken { IfOk result (λ r. IsCalled C.represents self.now.chain_threads ask.now self.now.pass only (Ok r.1)) }
-        ensures left { IfErr result (λ e. (e ≡ Refusal.UnknownChain) ⊎ IsCalled C.represents self.now.chain_threads ask.now self.now.pass only (Err e)) }
+        ensures call { IfOk result (λ r. IsCallOf node.now ask.now self.old.pass r.0 r.1) }
+        ensures unknown { (result ≡ Err Refusal.UnknownChain) ↔ (self.old.chains ≤ node.now.chain) }
+        ensures refused { IfErr result (λ e. RefusesAsk self.old.chains node.now ask.now e) }
+        ensures same { self.new ≡ record self.old { seen = self.new.seen } }
+        ensures later { IsPrefix self.old.seen self.new.seen }
+        ensures run { IfOk result (λ r. IsWitnessed self.old.client self.old.seen node.now ask.now r.0 r.1 self.new.seen) }
+        ensures taken { IfOk result (λ r. IsCalled C.represents self.old.chain_threads node.now ask.now self.old.pass only (Ok r.1)) }
+        ensures left { IfErr result (λ e. (e ≡ Refusal.UnknownChain) ⊎ IsCalled C.represents self.old.chain_threads node.now ask.now self.old.pass only (Err e)) }
     {
-        let chain = self.shared.chain(node.chain)?;
-        let receipt = self.reply(rt, chain, node, ask)?;
-        let answer = answer_of_call(self.alloc, &receipt, node, ask, self.pass)?;
+        self.shared.chain(node.chain)?;
+        let (call, made) = self.make(node, ask)?;
+        let answered = self.reply(rt, ask, made)?;
+        let receipt = self.finish(answered, call, node)?;
+        let answer = match answer_of_call(self.alloc, &receipt, node, ask, self.pass) {
+            Ok(answer) => answer,
+            Err(refusal) => {
+                drop(receipt);
+                return Err(refusal);
+            }
+        };
         Ok((answer, receipt))
     }
 
-    /// Returns the reply to a request, with a new completion queue to wait at.
-    fn reply<R: Wait>(&self, rt: &R, chain: &Chain<C>, node: &NodeName, ask: &Ask) -> Outcome
-        ensures refused { IfErr result (λ e. CanRefuse ask.now e) }
-        ensures called { IsCalled C.represents self.now.chain_threads ask.now self.now.pass only result }
+    /// Makes a call of this request, as `make_call` does.
+    fn make(&mut self, node: &NodeName, ask: &Ask) -> Result<(CallId, MadeAsk<C>), Refusal>
+        ensures made { IfOk result (λ r. IsMade self.old.seen r.0 node.now ask.now self.new.seen) }
+        ensures ask { IfOk result (λ r. r.1 ≡ record { name = node.now; ask = ask.now; call = r.0 }) }
+        ensures caller { IfOk result (λ r. r.0.client ≡ self.old.client) }
+        ensures same { self.new ≡ record self.old { seen = self.new.seen } }
+        ensures later { IsPrefix self.old.seen self.new.seen }
+        ensures refused { IfErr result (λ e. (e ≡ Refusal.Memory) ⊎ (e ≡ Refusal.Closed)) }
     {
-        let completions = Arc::new(self.alloc, CompletionQueue::new(self.alloc, None))?;
-        self.reply_into(rt, chain, node, ask, &completions)
+        let alloc = self.alloc;
+        let shared = &self.shared;
+        make_call(alloc, &shared.history, &mut self.session, node, ask)
+    }
+
+    /// Sees the steps of an answered call, as `finish_call` does.
+    fn finish(
+        &mut self,
+        answered: AnsweredCall<C>,
+        call: CallId,
+        node: &NodeName,
+    ) -> Result<CallReceipt, Refusal>
+        ensures receipt { IfOk result (λ r. r ≡ answered) }
+        ensures accepted { IfOk result (λ r. HasAccepted self.new.seen node.now call r.call.ticket) }
+        ensures replied { IfOk result (λ r. HasReplied self.new.seen node.now r) }
+        ensures history { IfOk result (λ r. IsHistory self.new.seen) }
+        ensures same { self.new ≡ record self.old { seen = self.new.seen } }
+        ensures later { IsPrefix self.old.seen self.new.seen }
+        ensures closed { IfErr result (λ e. e ≡ Refusal.Closed) }
+    {
+        let shared = &self.shared;
+        finish_call(&shared.history, &mut self.session, answered, call, node)
+    }
+
+    /// Returns the reply to a request, with a new completion queue to wait at.
+    fn reply<R: Wait>(&self, rt: &R, ask: &Ask, made: MadeAsk<C>) -> Outcome<C>
+        requires ask { made.ask ≡ ask.now }
+        requires there { made.name.chain < self.now.chains }
+        ensures refused { IfErr result (λ e. CanRefuse ask.now e) }
+        ensures called { IsCalled C.represents self.now.chain_threads made.name ask.now self.now.pass only result }
+    {
+        match Arc::new(self.alloc, CompletionQueue::new(self.alloc, None)) {
+            Ok(completions) => {
+                let outcome = self.reply_into(rt, ask, made, &completions);
+                drop(completions);
+                outcome
+            }
+            Err(_) => {
+                drop(made);
+                Err(Refusal::Memory)
+            }
+        }
     }
 
     /// Returns the reply to a request: at once, or the completion that comes into this queue.
     fn reply_into<R: Wait>(
         &self,
         rt: &R,
-        chain: &Chain<C>,
-        node: &NodeName,
         ask: &Ask,
-        completions: &Arc<CompletionQueue>,
-    ) -> Outcome
+        made: MadeAsk<C>,
+        completions: &Arc<CompletionQueue<Outcome<C>>>,
+    ) -> Outcome<C>
+        requires ask { made.ask ≡ ask.now }
+        requires there { made.name.chain < self.now.chains }
         ensures refused { IfErr result (λ e. CanRefuse ask.now e) }
-        ensures called { IsCalled C.represents self.now.chain_threads ask.now self.now.pass only result }
+        ensures called { IsCalled C.represents self.now.chain_threads made.name ask.now self.now.pass only result }
     {
         let caller = AskingCaller {
             pass: self.pass,
@@ -150,17 +242,80 @@ impl<C: Core, G: Gate> Client<C, G> {
             token: ONLY,
             light_load: true,
         };
-        let found = self.shared.submit(rt, chain, node, ask, caller)?;
+        let chain = match self.shared.chain(made.name().chain) {
+            Ok(chain) => chain,
+            Err(refusal) => {
+                drop(made);
+                return Err(refusal);
+            }
+        };
+        let found = self.shared.submit(rt, chain, ask, OwnAsk { made, caller })?;
         match found {
-            Some(receipt) => Ok(receipt),
+            Some(answered) => Ok(answered),
             None => wait_for_completion(rt, completions, ask),
         }
     }
 }
 
+/// Makes a call of this request: adds it to the store's history. Refused with `Memory` when out of
+/// memory, and with `Closed` if the client has no further number.
+fn make_call<N: Named>(
+    alloc: Global,
+    history: &StoreHistory<N>,
+    session: &mut Session<N>,
+    node: &NodeName,
+    ask: &Ask,
+) -> Result<(CallId, MadeAsk<N>), Refusal>
+    ensures made { IfOk result (λ r. IsMade session.old.seen r.0 node.now ask.now session.new.seen) }
+    ensures ask { IfOk result (λ r. r.1 ≡ record { name = node.now; ask = ask.now; call = r.0 }) }
+    ensures caller { IfOk result (λ r. r.0.client ≡ session.old.client) }
+    ensures client { session.new.client ≡ session.old.client }
+    ensures later { IsPrefix session.old.seen session.new.seen }
+    ensures refused { IfErr result (λ e. (e ≡ Refusal.Memory) ⊎ (e ≡ Refusal.Closed)) }
+{
+    let copy = ask.copied(alloc)?;
+    match session.call(history, *node, &copy) {
+        None => {
+            drop(copy);
+            Err(Refusal::Closed)
+        }
+        Some(made) => {
+            let call = made.call;
+            Ok((call, MadeAsk::new(made, *node, copy)))
+        }
+    }
+}
+
+/// Sees the steps of an answered call. Returns the receipt of the reply, or `Closed` if it is of
+/// another call.
+fn finish_call<N: Named>(
+    history: &StoreHistory<N>,
+    session: &mut Session<N>,
+    answered: AnsweredCall<N>,
+    call: CallId,
+    node: &NodeName,
+) -> Result<CallReceipt, Refusal>
+    ensures receipt { IfOk result (λ r. r ≡ answered) }
+    ensures accepted { IfOk result (λ r. HasAccepted session.new.seen node.now call r.call.ticket) }
+    ensures replied { IfOk result (λ r. HasReplied session.new.seen node.now r) }
+    ensures history { IfOk result (λ r. IsHistory session.new.seen) }
+    ensures client { session.new.client ≡ session.old.client }
+    ensures later { IsPrefix session.old.seen session.new.seen }
+    ensures closed { IfErr result (λ e. e ≡ Refusal.Closed) }
+{
+    match session.finish(history, answered, call, *node) {
+        Some(receipt) => Ok(receipt),
+        None => Err(Refusal::Closed),
+    }
+}
+
 /// Waits for the completion and returns its reply. A refusal that this request cannot have becomes
 /// `Closed`.
-fn wait_for_completion<R: Wait>(rt: &R, completions: &CompletionQueue, ask: &Ask) -> Outcome
+fn wait_for_completion<R: Wait, N: Named>(
+    rt: &R,
+    completions: &CompletionQueue<Outcome<N>>,
+    ask: &Ask,
+) -> Outcome<N>
     ensures { IfErr result (λ e. CanRefuse ask.now e) }
 {
     let Some(completion) = completions.wait(rt) else {
@@ -168,7 +323,7 @@ fn wait_for_completion<R: Wait>(rt: &R, completions: &CompletionQueue, ask: &Ask
     };
     let Completion { token: _, reply } = completion;
     match reply {
-        Ok(receipt) => Ok(receipt),
+        Ok(answered) => Ok(answered),
         Err(refusal) => Err(refusal_of_call(ask, refusal)),
     }
 }

@@ -5,14 +5,20 @@
 //! Code that runs in the programs.
 #![tactic(auto)]
 
+mod asking;
 mod auditing;
 mod client;
+mod history;
 mod looking;
+mod losses;
 mod opening;
 mod staff;
 mod store;
 
 pub use client::Client;
-pub use craq_completions::{Completion, CompletionQueue, Outcome, Token};
-pub use craq_running_node::{Gate, OpenGate, Work};
+pub use craq_completions::{Completion, CompletionQueue, Token};
+pub use craq_ghost_history::Named;
+pub use craq_running_node::{AskingCaller, Gate, OpenGate, Outcome, OwnAsk, Work};
+pub use craq_store_parts::{AnsweredCall, At, MadeAsk, Session};
+pub use history::{OpenedHistory, open_history};
 pub use store::{ChainStatus, Store};

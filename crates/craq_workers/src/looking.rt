@@ -4,6 +4,7 @@ ghost use Rattle.std.specs.Fn.{FnOnceReturnsAt};
 ghost use Rattle.craq_running_chain.specs.Missed.{IsMissed};
 
 use crate::store::Store;
+use craq_ghost_history::Named;
 use craq_names::{NodeName, Refusal};
 use craq_node::Core;
 use craq_running_node::{Gate, RunningNode};
@@ -13,16 +14,16 @@ use std::sync::Wait;
 fn look_at<R, C, T, F>(rt: &R, node: &RunningNode<C>, tell: F) -> T
 where
     R: Wait,
-    C: Core,
+    C: Core + Named,
     F: FnOnce(&C) -> T,
     requires { F.IsAlwaysCallable tell }
     ensures { (core : C) × FnOnceReturnsAt F.FnOnce tell core result }
 {
-    let seated = node.seat.lock(rt);
+    let seated = node.lock(rt);
     tell(seated.desk.cell().core())
 }
 
-impl<C: Core, G: Gate> Store<C, G> {
+impl<C: Core + Named, G: Gate> Store<C, G> {
     /// Returns what a function tells of a node: of a core that the node had during the call. The
     /// function is called under the node's lock, and the node waits for it.
     ///

@@ -1,15 +1,17 @@
 //! `Store`: starts and closes a store, stops, removes and joins nodes, ticks, and sends requests.
-ghost use Rattle.std.specs.Prelude.{◌≡◌, ◌+◌, ◌<◌, ◌≤◌, ◌==◌, ◌⊎◌, ◌↔◌, Err, IfErr, IfOk, IfSome, IsOk, MatchResult, Ok, OnErr, OnOk, Some, if◌then◌else◌, length, map, option_map, string_bytes};
+ghost use Rattle.std.specs.Prelude.{◌≡◌, [], ◌+◌, ◌<◌, ◌≤◌, ◌==◌, ◌⊎◌, ◌↔◌, Err, IfErr, IfOk, IfSome, IsOk, MatchResult, Ok, OnErr, OnOk, Some, if◌then◌else◌, length, map, option_map, string_bytes};
 ghost use Rattle.craq_epochs.specs.Mastered.{master_after_join, opened_master};
+ghost use Rattle.craq_ghost_history.specs.declared.author.Author.TheVariants as Author;
 ghost use Rattle.craq_names.specs.Limits.{greatest};
 ghost use Rattle.craq_locked_chain.specs.Membered.{AreMembershipsOf, IsMembershipOf};
 ghost use Rattle.craq_place.specs.Plan.{IsPlan};
 ghost use Rattle.craq_model.specs.Plain.{Plain};
-ghost use Rattle.craq_seat.specs.Books.{IsBook};
+ghost use Rattle.craq_seat.specs.Calls.{receipt_in};
 ghost use Rattle.craq_seat.specs.Cells.{receipt_of, with_inside};
 ghost use Rattle.craq_seat.specs.Kept.{IsKept};
 ghost use Rattle.craq_seat.specs.Taken.{TakesEvent, TakesTransition};
 ghost use Rattle.craq_running_chain.specs.Asks.{IsServed};
+ghost use Rattle.craq_store_parts.specs.Recorded.{IsUnjoined};
 ghost use Rattle.craq_workers.specs.Clients.{RefusesAsk};
 ghost use Rattle.craq_running_chain.specs.Missed.{IsMissed};
 ghost use Rattle.craq_workers.specs.Moves.{CanJoin, CanRemove, CanStop, IsKeptIn};
@@ -17,25 +19,27 @@ ghost use Rattle.craq_workers.specs.Posts.{node_posts};
 ghost use Rattle.craq_workers.specs.Stores.{masters_of};
 
 use crate::client::Client;
-use crate::opening::{Form, add_workers, open_chains, open_node};
+use crate::opening::{Form, Opener, add_workers, route_to};
 use crate::staff::Staff;
-use craq_completions::{CompletionQueue, Token};
-use craq_epochs::{MEMBER_LIMIT, StopReceipt, is_among};
+use craq_epochs::{MEMBER_LIMIT, is_among};
+use craq_ghost_history::{Named, Opened};
 use craq_locked_chain::ChainBook;
 use craq_model::{Ask, Config, Event};
 use craq_names::{ChainId, Copied, NodeId, NodeName, Pass, Refusal, Stamp};
 use craq_node::Core;
 use craq_place::Plan;
 use craq_running_chain::{Chain, Shared, Wakes, Worker, master_of, refuse_queued, run_worker};
-use craq_running_node::{
-    AskingCaller, Gate, Route, RunningNode, dismiss, refuse_callers, sent_by_book,
+use craq_running_node::{Gate, OwnAsk, Route, RunningNode, dismiss, refuse_callers};
+use craq_seat::{BookCell, BookEvent, Cell, Desk, Receipt};
+use craq_store_history::{Entry, StoreRule};
+use craq_store_parts::{
+    AnsweredCall, Cause, JoinedNode, Messages, RecordedDesk, Session, StoppedNode, StoreHistory,
+    StoreWriter, open_joined,
 };
-use craq_seat::{BookCell, BookEvent, CallReceipt, Desk, Receipt};
-use craq_sending::Sent;
 use crossbeam_channel::{Receiver, Sender};
 use std::alloc::{AllocError, Global};
 use std::marker::Model;
-use std::sync::{Arc, Wait};
+use std::sync::{Arc, Mutex, Wait};
 use std::thread;
 use std::thread::{JoinHandle, Threads};
 
@@ -53,7 +57,7 @@ pub struct ChainStatus {
 /// It has no drop: `close` ends it. A contract sees the names of its chains and their masters as
 /// they were opened, by id, and whether it keeps journals. It does not see what is behind locks and
 /// channels.
-pub struct Store<C: Core, G: Gate> {
+pub struct Store<C: Core + Named, G: Gate> {
     pub(crate) alloc: Global,
     form: Form,
     pub(crate) shared: Arc<Shared<C, G>>,
@@ -61,7 +65,7 @@ pub struct Store<C: Core, G: Gate> {
     ended: Receiver<()>,
 }
 
-impl<C: Core, G: Gate> Model for Store<C, G> {
+impl<C: Core + Named, G: Gate> Model for Store<C, G> {
     ghost use Rattle.std.specs.Prelude.{map, string_bytes};
     ghost use Rattle.craq_epochs.specs.Mastered.{opened_master};
     ghost use Rattle.craq_workers.specs.Stores.{Stored};
@@ -73,7 +77,7 @@ impl<C: Core, G: Gate> Model for Store<C, G> {
 
 /// Returns the status of a chain. Fails when out of memory, and if the lock holds the master of
 /// another chain.
-fn status_of<R: Wait, C: Core>(
+fn status_of<R: Wait, C: Core + Named>(
     rt: &R,
     alloc: Global,
     chain: &Chain<C>,
@@ -94,7 +98,7 @@ fn status_of<R: Wait, C: Core>(
 }
 
 /// Returns the status of each chain. Fails as `status_of` does.
-fn statuses_of<R: Wait, C: Core>(
+fn statuses_of<R: Wait, C: Core + Named>(
     rt: &R,
     alloc: Global,
     chains: &[Chain<C>],
@@ -118,7 +122,7 @@ fn hire<R, C, G>(
 ) -> Result<JoinHandle<()>, AllocError>
 where
     R: Threads + Wait + Copy + Send + 'static,
-    C: Core + Send + 'static,
+    C: Core + Named + Send + 'static,
     G: Gate + Send + Sync + 'static,
 {
     let shared = Arc::try_clone(shared)?;
@@ -159,43 +163,47 @@ fn test_join(book: &BookCell, node: NodeId) -> Result<(), Refusal>
 }
 
 /// Shows a proof that a node's cell keeps its invariant. Does nothing.
-fn keeps_desk<C: Core>(desk: &Desk<C>)
+fn keeps_desk<C: Core + Named>(desk: &RecordedDesk<C>)
     ensures { IsKept C.represents desk.now.cell }
 {
     let _ = desk.cell().journal();
 }
 
-/// Shows a proof that a master's cell keeps its invariant. Does nothing.
-fn keeps_book(book: &ChainBook)
-    ensures { IsBook book.now }
-{
-    let _ = book.cell().journal();
-}
-
 /// Takes the step of a stop at a node's cell. Returns the receipt of the step; a refused one
 /// changes nothing.
-fn stop_desk<C: Core>(alloc: Global, desk: &mut Desk<C>) -> Result<Receipt, Refusal>
+fn stop_desk<C: Core + Named>(
+    alloc: Global,
+    history: &StoreHistory<C>,
+    desk: &mut RecordedDesk<C>,
+) -> Result<Receipt, Refusal>
     ensures step { (p : Plain) → C.represents desk.old.cell.inside p → TakesEvent C.represents desk.new.cell (with_inside desk.old.cell p) Event.Stop 0 result }
     ensures receipt { IfOk result (λ receipt. receipt ≡ receipt_of desk.new.cell) }
     ensures refused { IfErr result (λ e. CanStop e) }
     ensures same { OnErr result (desk.new.waiting ≡ desk.old.waiting) }
 {
     keeps_desk(desk);
-    let (receipt, _) = desk.take(alloc, Event::Stop, Pass::start())?;
+    let cause = Cause {
+        pass: Pass::start(),
+        call: None,
+        token: desk.token(history),
+    };
+    let (receipt, done) = desk.take(alloc, history, Event::Stop, cause)?;
+    drop(done);
     Ok(receipt)
 }
 
 /// Stops a node, and refuses the callers that wait there with `Stopped`. Returns the receipt of the
 /// step; a refused stop changes nothing.
-fn stop_node<R: Wait, C: Core>(
+fn stop_node<R: Wait, C: Core + Named>(
     rt: &R,
     alloc: Global,
+    history: &StoreHistory<C>,
     node: &RunningNode<C>,
 ) -> Result<Receipt, Refusal>
     ensures { IfErr result (λ e. CanStop e) }
 {
-    let mut seated = node.seat.lock(rt);
-    let receipt = stop_desk(alloc, &mut seated.desk)?;
+    let mut seated = node.lock(rt);
+    let receipt = stop_desk(alloc, history, &mut seated.desk)?;
     let callers = dismiss(alloc, &mut seated);
     drop(seated);
     node.halt();
@@ -203,34 +211,73 @@ fn stop_node<R: Wait, C: Core>(
     Ok(receipt)
 }
 
-/// Takes the master's step that lets a node join. Returns the receipt of the step.
-fn join_book(alloc: Global, book: &mut ChainBook, id: NodeId) -> Result<Receipt, Refusal>
-    ensures step { TakesTransition book.old book.new (BookEvent.Join id) 0 result }
-    ensures master { IfOk result (λ receipt. receipt.node ≡ 0) }
+/// Takes the master's step that lets a node join. Returns the receipt of the step, and the node with
+/// a token of it.
+fn join_book<N: Named>(
+    alloc: Global,
+    history: &StoreHistory<N>,
+    book: &mut ChainBook<N>,
+    id: NodeId,
+) -> Result<(Receipt, JoinedNode<N>), Refusal>
+    ensures step { TakesTransition book.old book.new (BookEvent.Join id) 0 (receipt_in result) }
+    ensures master { IfOk result (λ r. r.0.node ≡ 0) }
+    ensures joined { IfOk result (λ r. r.1 ≡ record { chain = book.old.opening.name.chain; node = id }) }
     ensures refused { IfErr result (λ e. CanJoin e) }
 {
-    let taken = book.take(alloc, BookEvent::Join(id), Pass::start());
-    keeps_book(book);
-    taken
+    book.join(alloc, history, id)
 }
 
 /// Takes the master's step that removes a stopped node. Returns the receipt of the step.
-fn remove_from_book(
+fn remove_from_book<N: Named>(
     alloc: Global,
-    book: &mut ChainBook,
-    stopped: StopReceipt,
-    stop: Receipt,
+    history: &StoreHistory<N>,
+    book: &mut ChainBook<N>,
+    node: StoppedNode<N>,
 ) -> Result<Receipt, Refusal>
-    ensures step { TakesTransition book.old book.new (BookEvent.Remove stopped stop) 0 result }
+    requires { node.stopped.chain ≡ book.old.opening.name.chain }
+    ensures step { TakesTransition book.old book.new (BookEvent.Remove node.stopped node.stop) 0 result }
     ensures master { IfOk result (λ receipt. receipt.node ≡ 0) }
     ensures refused { IfErr result (λ e. IsKeptIn e) }
 {
-    let taken = book.take(alloc, BookEvent::Remove { stopped, stop }, Pass::start());
-    keeps_book(book);
-    taken
+    let (stopped, stop, token) = node.into_parts();
+    book.take(alloc, history, BookEvent::Remove { stopped, stop }, token)
 }
 
-impl<C: Core, G: Gate> Store<C, G> {
+/// A node that waits for the master's step that lets it join: its desk, and its routing entry.
+#[derive(Drop)]
+struct Joining<C: Core + Named> {
+    name: NodeName,
+    desk: Desk<C>,
+    route: Route<C>,
+}
+
+/// A node that its chain's master let in: the proof of it, and the right to the node's entries.
+#[derive(Drop)]
+struct Admitted<N: Named> {
+    joined: JoinedNode<N>,
+    writer: StoreWriter<N>,
+}
+
+/// Makes the parts of a node that joins (`Cell::open`), with stamps from this one on. Refused with
+/// `Memory` only.
+fn prepare_node<C: Core + Named>(
+    alloc: Global,
+    name: NodeName,
+    journal: bool,
+    stamp: Stamp,
+) -> Result<Joining<C>, Refusal>
+    requires { 1 ≤ name.node }
+    ensures name { IfOk result (λ j. j.name ≡ name) }
+    ensures cell { IfOk result (λ j. IsUnjoined C.represents name j.desk.cell) }
+    ensures err { IfErr result (λ e. e ≡ Refusal.Memory) }
+{
+    let cell = Cell::open(alloc, name, None, journal, stamp)?;
+    let route = route_to(alloc, &name)?;
+    let desk = Desk::new(alloc, cell);
+    Ok(Joining { name, desk, route })
+}
+
+impl<C: Core + Named, G: Gate> Store<C, G> {
     /// Returns whether the store keeps journals, so that it can be audited.
     pub fn has_journals(&self) -> bool
         ensures { result ≡ self.now.journals }
@@ -238,48 +285,47 @@ impl<C: Core, G: Gate> Store<C, G> {
         self.form.journal
     }
 
-    /// Makes a client of the store with this pass. Fails only when out of memory.
-    pub fn client(&self, pass: Pass) -> Result<Client<C, G>, AllocError>
+    /// Makes a client of the store with this pass, and with a session of its own, which has seen
+    /// nothing of the store's history yet. Fails when out of memory, and if 2^64 - 1 clients were
+    /// made.
+    pub fn client<R: Wait>(&self, rt: &R, pass: Pass) -> Result<Client<C, G>, AllocError>
         ensures chains { IfOk result (λ c. c.chains ≡ length self.now.names) }
         ensures pass { IfOk result (λ c. c.pass ≡ pass) }
+        ensures seen { IfOk result (λ c. c.seen ≡ []) }
     {
-        Ok(Client::new(self.alloc, Arc::try_clone(&self.shared)?, pass))
+        let shared = Arc::try_clone(&self.shared)?;
+        let mut registrar = shared.registrar.lock(rt);
+        let Some(session) = Session::open(&shared.history, &mut registrar) else {
+            return Err(AllocError);
+        };
+        drop(registrar);
+        Ok(Client::new(self.alloc, shared, pass, session))
     }
 
-    /// Sends a request to a node with a pass, and does not wait. Returns the receipt of the call if
-    /// the answer is known at once, and else `None`.
+    /// Sends a call to its node with a pass, and does not wait. Returns the reply to the call if it
+    /// is known at once, and else `None`. `ask` is the call's request.
     ///
-    /// After `None` exactly one completion with this token comes into the queue: with the receipt,
-    /// or with `Stopped`, `Closed` or `Memory`, or, if the request was queued, with the node's
-    /// refusal. Of a receipt that comes so nothing is proved but that a desk made it;
-    /// `craq_pending_calls::answer_of_call` tells whether it is of this call. `light_load` says that the caller
-    /// has few requests, and may take their steps and run the chain's nodes itself.
+    /// After `None` exactly one completion with the caller's token comes into its queue: with the
+    /// reply, or with `Stopped`, `Closed` or `Memory`, or, if the request was queued, with the
+    /// node's refusal. Of a reply that comes so nothing is proved but that a desk made it;
+    /// `Session::finish` tells whether it is of this call.
     ///
     /// Refused as `Client::call` is, and then no completion comes: with `UnknownChain` exactly if
     /// the store has no such chain.
     pub fn submit<R: Wait>(
         &self,
         rt: &R,
-        node: &NodeName,
         ask: &Ask,
-        pass: Pass,
-        completions: &Arc<CompletionQueue>,
-        token: Token,
-        light_load: bool,
-    ) -> Result<Option<CallReceipt>, Refusal>
-        ensures unknown { (result ≡ Err Refusal.UnknownChain) ↔ (length self.now.names ≤ node.now.chain) }
-        ensures refused { IfErr result (λ e. RefusesAsk (length self.now.names) node.now ask.now e) }
-        ensures taken { IfOk result (λ found. IfSome found (λ receipt. IsServed C.represents ask.now pass token (Some (Ok receipt)))) }
-        ensures left { IfErr result (λ e. (e ≡ Refusal.UnknownChain) ⊎ IsServed C.represents ask.now pass token (Some (Err e)) ⊎ IsMissed e) }
+        own: OwnAsk<'_, C>,
+    ) -> Result<Option<AnsweredCall<C>>, Refusal>
+        requires { own.made.ask ≡ ask.now }
+        ensures unknown { (result ≡ Err Refusal.UnknownChain) ↔ (length self.now.names ≤ own.entry.made.name.chain) }
+        ensures refused { IfErr result (λ e. RefusesAsk (length self.now.names) own.entry.made.name ask.now e) }
+        ensures taken { IfOk result (λ found. IfSome found (λ receipt. IsServed C.represents own.entry.made.name ask.now own.entry.caller.pass own.entry.caller.token (Some (Ok receipt)))) }
+        ensures left { IfErr result (λ e. (e ≡ Refusal.UnknownChain) ⊎ IsServed C.represents own.entry.made.name ask.now own.entry.caller.pass own.entry.caller.token (Some (Err e)) ⊎ IsMissed e) }
     {
-        let chain = self.shared.chain(node.chain)?;
-        let caller = AskingCaller {
-            pass,
-            completions,
-            token,
-            light_load,
-        };
-        self.shared.submit(rt, chain, node, ask, caller)
+        let chain = self.shared.chain(own.made.name().chain)?;
+        self.shared.submit(rt, chain, ask, own)
     }
 
     /// Ticks all chains: each master, and each node that runs, sends again what others may lack.
@@ -318,17 +364,20 @@ impl<C: Core, G: Gate> Store<C, G> {
     }
 }
 
-impl<C: Core + Send + 'static, G: Gate + Send + Sync + 'static> Store<C, G> {
-    /// Starts the chains of a plan, with journals or without. Refused with `Memory` when out of
-    /// memory or if no thread can be made, and then leaves no thread.
+impl<C: Core + Named + Send + 'static, G: Gate + Send + Sync + 'static> Store<C, G> {
+    /// Starts the chains of a plan, with journals or without, and with a history that was opened
+    /// under the name of the core's type. Refused with `Memory` when out of memory or if no thread
+    /// can be made, and then leaves no thread.
     pub fn start<R: Threads + Wait + Copy + Send + 'static>(
         rt: R,
         alloc: Global,
+        opened: Opened<Entry, StoreRule>,
         plan: &Plan,
         gate: G,
         journal: bool,
     ) -> Result<Self, Refusal>
-        requires { IsPlan plan.now }
+        requires plan { IsPlan plan.now }
+        requires history { opened ≡ C.history }
         ensures names { IfOk result (λ store. store.names ≡ map (λ c. c.0) plan.now) }
         ensures masters { IfOk result (λ store. store.masters ≡ masters_of 0 plan.now) }
         ensures journals { IfOk result (λ store. store.journals ≡ journal) }
@@ -338,11 +387,23 @@ impl<C: Core + Send + 'static, G: Gate + Send + Sync + 'static> Store<C, G> {
             journal,
             staff: Staff::of(&gate),
         };
+        let (history, registrar) = opened.named(alloc);
+        let registrar = Mutex::new(registrar);
         let (alive, ended) = crossbeam_channel::unbounded(alloc)?;
         let mut workers = Vec::new(alloc);
-        let chains = open_chains(alloc, plan, form, &alive, &mut workers)?;
+        let opener = Opener {
+            rt: &rt,
+            alloc,
+            form,
+            history: &history,
+            registrar: &registrar,
+            alive: &alive,
+        };
+        let chains = opener.open_chains(plan, &mut workers)?;
         let shared = Shared {
             alloc,
+            history,
+            registrar,
             gate,
             chain_threads: form.staff.is_per_chain(),
             in_place: form.staff != Staff::TwoPerNode,
@@ -392,7 +453,7 @@ impl<C: Core + Send + 'static, G: Gate + Send + Sync + 'static> Store<C, G> {
         ensures refused { IfErr result (λ e. (e ≡ Refusal.UnknownChain) ⊎ CanStop e) }
     {
         let node = self.shared.chain(chain)?.node(rt, node)?;
-        stop_node(rt, self.alloc, &node)
+        stop_node(rt, self.alloc, &self.shared.history, &node)
     }
 
     /// Removes a stopped node from its chain's membership, and ends the node's own threads. Returns
@@ -414,11 +475,15 @@ impl<C: Core + Send + 'static, G: Gate + Send + Sync + 'static> Store<C, G> {
             return Err(Refusal::NotMember);
         }
         let member = place.node(rt, node)?;
-        let Some((stopped, stop)) = member.stopped(rt) else {
+        let history = &self.shared.history;
+        let Some(stopped) = member.stopped(rt, history) else {
             return Err(Refusal::NotStopped);
         };
-        let receipt = remove_from_book(self.alloc, &mut book, stopped, stop)?;
-        let sent = sent_by_book(self.alloc, book.cell());
+        if stopped.chain() != book.cell().opening().name.chain {
+            return Err(Refusal::NotMember);
+        }
+        let receipt = remove_from_book(self.alloc, history, &mut book, stopped)?;
+        let sent = book.messages(self.alloc, history);
         drop(book);
         place.retire(rt, node, self.form.journal);
         place.wake_up.change();
@@ -449,13 +514,16 @@ impl<C: Core + Send + 'static, G: Gate + Send + Sync + 'static> Store<C, G> {
         let place = self.shared.chain(chain)?;
         let mut book = place.book.lock(&rt);
         test_join(book.cell(), node)?;
-        let name = NodeName { chain, node };
+        let name = NodeName {
+            chain: book.cell().opening().name.chain,
+            node,
+        };
         let stamp = next(book.cell().stamp())?;
-        let route = open_node(self.alloc, &name, None, self.form.journal, stamp)?;
         let mut hired = Vec::with_capacity(self.alloc, 2)?;
-        match self.join_opened(rt, place, &mut book, node, route, &mut hired) {
+        let joining = prepare_node(self.alloc, name, self.form.journal, stamp)?;
+        match self.join_opened(rt, place, &mut book, joining, &mut hired) {
             Ok(receipt) => {
-                let sent = sent_by_book(self.alloc, book.cell());
+                let sent = book.messages(self.alloc, &self.shared.history);
                 drop(book);
                 place.wake_up.change();
                 self.announce(&rt, chain, sent);
@@ -498,24 +566,93 @@ impl<C: Core + Send + 'static, G: Gate + Send + Sync + 'static> Store<C, G> {
         &self,
         rt: R,
         place: &Chain<C>,
-        book: &mut ChainBook,
-        id: NodeId,
-        route: Route<C>,
+        book: &mut ChainBook<C>,
+        joining: Joining<C>,
         hired: &mut Vec<JoinHandle<()>>,
     ) -> Result<Receipt, Refusal>
-        ensures step { OnOk result (TakesTransition book.old book.new (BookEvent.Join id) 0 result) }
+        requires cell { IsUnjoined C.represents joining.name joining.desk.cell }
+        requires chain { joining.name.chain ≡ book.old.opening.name.chain }
+        ensures step { OnOk result (TakesTransition book.old book.new (BookEvent.Join joining.name.node) 0 result) }
         ensures refused { IfErr result (λ e. CanJoin e) }
         ensures master { IfOk result (λ receipt. receipt.node ≡ 0) }
     {
-        self.hire_workers(rt, place, &route, self.form.staff, hired)?;
+        match self.let_join(rt, place, book, &joining, hired) {
+            Ok((receipt, admitted)) => {
+                self.seat(&rt, place, joining, admitted)?;
+                Ok(receipt)
+            }
+            Err(refusal) => {
+                drop(joining);
+                Err(refusal)
+            }
+        }
+    }
+
+    /// Starts the workers of a node, reserves room for its entry, and takes the master's step.
+    /// Returns the receipt of the step, and the right to the node's entries.
+    fn let_join<R: Threads + Wait + Copy + Send + 'static>(
+        &self,
+        rt: R,
+        place: &Chain<C>,
+        book: &mut ChainBook<C>,
+        joining: &Joining<C>,
+        hired: &mut Vec<JoinHandle<()>>,
+    ) -> Result<(Receipt, Admitted<C>), Refusal>
+        requires { joining.now.name.chain ≡ book.old.opening.name.chain }
+        ensures step { OnOk result (TakesTransition book.old book.new (BookEvent.Join joining.now.name.node) 0 (receipt_in result)) }
+        ensures refused { IfErr result (λ e. CanJoin e) }
+        ensures master { IfOk result (λ r. r.0.node ≡ 0) }
+        ensures joined { IfOk result (λ r. r.1.joined ≡ joining.now.name) }
+        ensures right { IfOk result (λ r. (r.1.writer.author ≡ Author.Node joining.now.name.chain joining.now.name.node) × (r.1.writer.seen ≡ [])) }
+    {
+        self.hire_workers(rt, place, &joining.route, self.form.staff, hired)?;
         place.make_room(&rt)?;
-        let receipt = join_book(self.alloc, book, id)?;
-        place.add(&rt, route)?;
-        Ok(receipt)
+        let mut registrar = self.shared.registrar.lock(&rt);
+        registrar.make_room()?;
+        let history = &self.shared.history;
+        let name = joining.name;
+        let (receipt, joined) = join_book(self.alloc, history, book, name.node)?;
+        let writer = registrar.node(history, name.chain.get() as u64, name.node.get() as u64);
+        drop(registrar);
+        match writer {
+            Some(writer) => Ok((receipt, Admitted { joined, writer })),
+            None => {
+                drop(joined);
+                Err(Refusal::Memory)
+            }
+        }
+    }
+
+    /// Opens a node that was let in, and adds its routing entry. Fails only when out of memory.
+    fn seat<R: Wait>(
+        &self,
+        rt: &R,
+        place: &Chain<C>,
+        joining: Joining<C>,
+        admitted: Admitted<C>,
+    ) -> Result<(), Refusal>
+        requires cell { IsUnjoined C.represents joining.name joining.desk.cell }
+        requires joined { admitted.joined ≡ joining.name }
+        requires right { (admitted.writer.author ≡ Author.Node joining.name.chain joining.name.node) × (admitted.writer.seen ≡ []) }
+        ensures { IfErr result (λ e. e ≡ Refusal.Memory) }
+    {
+        let Joining {
+            name: _,
+            desk,
+            route,
+        } = joining;
+        let Admitted { joined, writer } = admitted;
+        let desk = open_joined(&self.shared.history, desk, writer, joined);
+        if let Some(node) = &route.node {
+            node.open(rt, self.alloc, desk);
+        } else {
+            drop(desk);
+        }
+        place.add(rt, route)
     }
 
     /// Sends the master's messages.
-    fn announce<R: Wait>(&self, rt: &R, chain: ChainId, sent: Vec<Sent>) {
+    fn announce<R: Wait>(&self, rt: &R, chain: ChainId, sent: Messages<C>) {
         self.shared
             .post(rt, &master_of(chain), sent, Wakes::ChainThread);
     }

@@ -10,7 +10,7 @@ use crate::logging::Log;
 use crate::metered::Metered;
 use crate::passes::Passes;
 use crate::runtime::ServerRuntime;
-use crate::served_store::ServedStore;
+use crate::served_store::{ServedStore, StoreOutcome};
 use crate::socket_options::prepare;
 use craq_completions::CompletionQueue;
 use craq_event_loop::ClientStream;
@@ -19,7 +19,7 @@ use craq_names::Refusal;
 use craq_node::Core;
 use craq_seat::CallReceipt;
 use craq_session::CallDoor;
-use craq_workers::{Gate, Store};
+use craq_workers::{Gate, Named, Store};
 use std::alloc::{AllocError, Global};
 use std::net::{TcpListener, TcpStream};
 use std::sync::{Arc, Mutex, Wait};
@@ -90,7 +90,7 @@ pub(crate) enum Next {
 
 /// The connections of a listener to a store.
 #[derive(Drop)]
-pub(crate) struct Server<'a, R, C: Core, G: Gate> {
+pub(crate) struct Server<'a, R, C: Core + Named, G: Gate> {
     pub(crate) rt: R,
     pub(crate) alloc: Global,
     store: &'a Store<C, G>,
@@ -115,7 +115,7 @@ fn set_patience(stream: &TcpStream, seconds: u32) {
 impl<'a, R, C, G> Server<'a, R, C, G>
 where
     R: Eprint + Wait,
-    C: Core,
+    C: Core + Named,
     G: Gate,
 {
     /// Logs that a connection is over, and frees its place.
@@ -137,7 +137,7 @@ where
 impl<'a, R, C, G> Server<'a, R, C, G>
 where
     R: ServerRuntime,
-    C: Core + Send + 'static,
+    C: Core + Named + Send + 'static,
     G: Gate + Send + Sync + 'static,
 {
     /// Makes the server of a store. Takes no memory.
@@ -237,10 +237,11 @@ where
     }
 
     /// Returns the store as the connections of one thread call it, with the thread's completion
-    /// queue and its share of the counts. Fails only when out of memory.
+    /// queue, its share of the counts, and a new session. Fails when out of memory, and if 2^64 - 1
+    /// sessions were opened.
     pub(crate) fn backend(
         &self,
-        completions: CompletionQueue,
+        completions: CompletionQueue<StoreOutcome<C>>,
         share: Arc<Share>,
     ) -> Result<ServedStore<'_, R, C, G>, AllocError> {
         Ok(ServedStore {
@@ -249,6 +250,7 @@ where
             store: self.store,
             passes: &self.passes,
             log: self.serving.log,
+            session: Mutex::new(self.store.open_session(&self.rt)?),
             completions: Arc::new(self.alloc, completions)?,
             share,
         })
@@ -395,7 +397,7 @@ pub fn accept_with<'x, R, C, G>(
 ) -> Result<ServeReport, AllocError>
 where
     R: ServerRuntime,
-    C: Core + Send + 'static,
+    C: Core + Named + Send + 'static,
     G: Gate + Send + Sync + 'static,
 {
     let EventLoops { serving, all } = event_loops;
@@ -469,7 +471,7 @@ pub fn accept<R, C, G>(
 ) -> Result<Vec<CallReceipt>, Refusal>
 where
     R: ServerRuntime,
-    C: Core + Send + 'static,
+    C: Core + Named + Send + 'static,
     G: Gate + Send + Sync + 'static,
     ensures err { IfErr result (λ e. (e ≡ Refusal.Memory) ⊎ (e ≡ Refusal.Io)) }
     ensures none { store.now.journals ≡ false → IfOk result (λ receipts. receipts.items ≡ []) }

@@ -20,7 +20,7 @@ pub(crate) struct Share {
     updates: AtomicU64,
     reads: AtomicU64,
     statuses: AtomicU64,
-    /// Refused updates and reads, by the refusal's number, from 1.
+    /// Refused requests, and frames that are none, by the refusal's number, from 1.
     refused: Vec<AtomicU64>,
     pub(crate) traffic: Arc<Traffic>,
 }
@@ -54,7 +54,7 @@ impl Share {
         self.statuses.fetch_add(1, Ordering::SeqCst);
     }
 
-    /// Counts a refused update or read.
+    /// Counts a refused update or read, or a refused frame that is none.
     pub(crate) fn count_refusal(&self, refusal: &Refusal) {
         let index = usize::from(refusal.number()).saturating_sub(1);
         if let Some(count) = self.refused.get(index) {
@@ -97,7 +97,8 @@ pub struct Counts {
     pub reads: u64,
     /// The number of requests for the status.
     pub statuses: u64,
-    /// The number of refused updates and reads, by the refusal's number, from 1.
+    /// The number of refused updates and reads, and of refused frames that are none, by the
+    /// refusal's number, from 1.
     pub refused: [u64; REFUSALS],
     /// The number of bytes that were read from clients.
     pub read_bytes: u64,

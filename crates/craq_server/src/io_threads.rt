@@ -4,7 +4,7 @@ ghost use Rattle.std.specs.Prelude.{◌≡◌, [], IfOk, length};
 
 use crate::accepting::{Next, Server, Serving, Taken};
 use crate::runtime::ServerRuntime;
-use crate::served_store::ServedStore;
+use crate::served_store::{ServedStore, StoreOutcome};
 use craq_completions::{Completion, CompletionQueue, Token};
 use craq_event_loop::{Arrival, ClientStream, EventLoop, LoopBackend};
 use craq_frames::Text;
@@ -12,7 +12,7 @@ use craq_names::Refusal;
 use craq_node::Core;
 use craq_seat::CallReceipt;
 use craq_session::{AsyncBackend, Backend, CallRequest, Load, SubmitToken};
-use craq_workers::{Gate, Store};
+use craq_workers::{Gate, Named, Store};
 use std::alloc::{AllocError, Global};
 use std::net::{Net, TcpListener, TcpStream};
 use std::sync::atomic::{AtomicBool, AtomicU64, Ordering};
@@ -22,9 +22,11 @@ use std::thread::Scope;
 
 /// The backend of one event loop.
 #[derive(Drop)]
-struct IoContext<'s, 'a, R: Wait, C: Core, G: Gate> {
+struct IoContext<'s, 'a, R: Wait, C: Core + Named, G: Gate> {
     server: &'s Server<'a, R, C, G>,
     backend: ServedStore<'s, R, C, G>,
+    /// The completions that have come and are not handed to the event loop yet.
+    arrived: Mutex<Vec<Completion<StoreOutcome<C>>>>,
     /// The connections that were handed to the thread and are not taken in yet.
     inbox: Mutex<Vec<Arrival>>,
     /// True where no more connections are handed to it.
@@ -35,10 +37,36 @@ struct IoContext<'s, 'a, R: Wait, C: Core, G: Gate> {
     latest: AtomicU64,
 }
 
+impl<'s, 'a, R, C, G> IoContext<'s, 'a, R, C, G>
+where
+    R: Wait,
+    C: Core + Named,
+    G: Gate,
+{
+    /// Moves completions to the end of `into`, as connections take them. Out of memory, the others
+    /// stay until the next call.
+    fn move_completions(
+        &self,
+        arrived: &mut Vec<Completion<StoreOutcome<C>>>,
+        into: &mut Vec<Completion>,
+    ) {
+        for _ in 0..arrived.len() {
+            if into.reserve(1).is_err() {
+                break;
+            }
+            let Some(Completion { token, reply }) = arrived.pop() else {
+                break;
+            };
+            let reply = self.backend.reported(reply);
+            into.push_reserved(Completion { token, reply });
+        }
+    }
+}
+
 impl<'s, 'a, R, C, G> Backend for IoContext<'s, 'a, R, C, G>
 where
     R: ServerRuntime,
-    C: Core + Send + 'static,
+    C: Core + Named + Send + 'static,
     G: Gate + Send + Sync + 'static,
 {
     ghost use Rattle.std.specs.Prelude.{length};
@@ -52,12 +80,16 @@ where
     fn status(&self) -> Result<Text, AllocError> {
         self.backend.status()
     }
+
+    fn unasked(&self, refusal: &Refusal) {
+        self.backend.unasked(refusal);
+    }
 }
 
 impl<'s, 'a, R, C, G> AsyncBackend for IoContext<'s, 'a, R, C, G>
 where
     R: ServerRuntime,
-    C: Core + Send + 'static,
+    C: Core + Named + Send + 'static,
     G: Gate + Send + Sync + 'static,
 {
     ghost use Rattle.std.specs.Prelude.{⊤};
@@ -82,7 +114,7 @@ where
 impl<'s, 'a, R, C, G> LoopBackend for IoContext<'s, 'a, R, C, G>
 where
     R: ServerRuntime,
-    C: Core + Send + 'static,
+    C: Core + Named + Send + 'static,
     G: Gate + Send + Sync + 'static,
 {
     ghost use Rattle.std.specs.Prelude.{⊤};
@@ -92,12 +124,9 @@ where
     ghost lets_sleep = { λ context may. ⊤ };
 
     fn take_completions(&self, into: &mut Vec<Completion>) {
-        self.backend.completions.take(&self.server.rt, into);
-        for completion in into.iter() {
-            if let Ok(receipt) = &completion.reply {
-                self.backend.reported(receipt);
-            }
-        }
+        let mut arrived = self.arrived.lock(&self.server.rt);
+        self.backend.completions.take(&self.server.rt, &mut arrived);
+        self.move_completions(&mut arrived, into);
     }
 
     fn arrival(&self) -> Option<Arrival> {
@@ -109,7 +138,8 @@ where
     }
 
     fn may_sleep(&self) -> bool {
-        self.backend.completions.may_sleep(&self.server.rt)
+        self.arrived.lock(&self.server.rt).is_empty()
+            && self.backend.completions.may_sleep(&self.server.rt)
     }
 
     fn seconds(&self) -> u64 {
@@ -130,7 +160,7 @@ where
 impl<'s, 'a, R, C, G> IoContext<'s, 'a, R, C, G>
 where
     R: ServerRuntime,
-    C: Core + Send + 'static,
+    C: Core + Named + Send + 'static,
     G: Gate + Send + Sync + 'static,
 {
     /// Makes the context of the thread of this index with this event loop. Fails when out of
@@ -145,6 +175,7 @@ where
         Ok(IoContext {
             server,
             backend: server.backend(completions, share)?,
+            arrived: Mutex::new(Vec::new(server.alloc)),
             inbox: Mutex::new(Vec::new(server.alloc)),
             over: AtomicBool::new(false),
             event_loop: Mutex::new(Some(event_loop)),
@@ -192,7 +223,7 @@ fn deal<'s, 'a, R, C, G>(
 ) -> Taken
 where
     R: ServerRuntime,
-    C: Core + Send + 'static,
+    C: Core + Named + Send + 'static,
     G: Gate + Send + Sync + 'static,
 {
     let mut left = server.serving.connections;
@@ -263,7 +294,7 @@ impl EventLoops {
 
 /// The threads that serve a server's connections.
 #[derive(Drop)]
-struct IoContexts<'s, 'a, R: Wait, C: Core, G: Gate> {
+struct IoContexts<'s, 'a, R: Wait, C: Core + Named, G: Gate> {
     server: &'s Server<'a, R, C, G>,
     all: Vec<IoContext<'s, 'a, R, C, G>>,
 }
@@ -271,7 +302,7 @@ struct IoContexts<'s, 'a, R: Wait, C: Core, G: Gate> {
 impl<'s, 'a, R, C, G> IoContext<'s, 'a, R, C, G>
 where
     R: ServerRuntime,
-    C: Core + Send + 'static,
+    C: Core + Named + Send + 'static,
     G: Gate + Send + Sync + 'static,
 {
     /// Runs the event loop until no more connections come and all have ended.
@@ -293,7 +324,7 @@ where
 impl<'s, 'a, R, C, G> IoContexts<'s, 'a, R, C, G>
 where
     R: ServerRuntime,
-    C: Core + Send + 'static,
+    C: Core + Named + Send + 'static,
     G: Gate + Send + Sync + 'static,
 {
     /// Begins all threads, as far as the system gives them. Returns whether all began.
@@ -340,7 +371,7 @@ pub(crate) fn serve_by_threads<'a, R, C, G>(
 ) -> Result<Taken, AllocError>
 where
     R: ServerRuntime,
-    C: Core + Send + 'static,
+    C: Core + Named + Send + 'static,
     G: Gate + Send + Sync + 'static,
 {
     let mut all = Vec::new(server.alloc);

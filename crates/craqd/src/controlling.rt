@@ -8,7 +8,7 @@ use craq_cli::{BadWord, ControlLine, UsageError, control_line};
 use craq_names::{ChainId, NodeName, Refusal};
 use craq_place::MOST_CHAINS;
 use craq_seat::Receipt;
-use craq_workers::ChainStatus;
+use craq_workers::{ChainStatus, Named};
 use std::alloc::{AllocError, Global};
 use std::str::from_utf8;
 use std::sync::Wait;
@@ -79,9 +79,9 @@ fn tell_last<R: Eprint>(rt: &R, chains: &[ChainStatus], node: &NodeName) {
 }
 
 /// Returns whether a node is the last ready member of its chain. Fails only when out of memory.
-fn is_last_of_chain<R: AllocGlobal + Wait>(
+fn is_last_of_chain<R: AllocGlobal + Wait, N: Named>(
     rt: &R,
-    store: &RunningStore,
+    store: &RunningStore<N>,
     chains: &[ChainStatus],
     node: NodeName,
 ) -> Result<bool, AllocError> {
@@ -93,9 +93,9 @@ fn is_last_of_chain<R: AllocGlobal + Wait>(
 }
 
 /// Stops a node unless it is the last ready member of its chain. Fails only when out of memory.
-fn stop_if_another<R: AllocGlobal + Eprint + Wait>(
+fn stop_if_another<R: AllocGlobal + Eprint + Wait, N: Named + Send + 'static>(
     rt: &R,
-    store: &RunningStore,
+    store: &RunningStore<N>,
     chains: &[ChainStatus],
     node: NodeName,
 ) -> Result<(), AllocError> {
@@ -108,9 +108,9 @@ fn stop_if_another<R: AllocGlobal + Eprint + Wait>(
 }
 
 /// Stops a node.
-fn stop_node<R: Eprint + Wait>(
+fn stop_node<R: Eprint + Wait, N: Named + Send + 'static>(
     rt: &R,
-    store: &RunningStore,
+    store: &RunningStore<N>,
     chains: &[ChainStatus],
     node: NodeName,
 ) {
@@ -137,9 +137,9 @@ fn chain_text(
 }
 
 /// Prints a chain with its epoch, and its members, the head first. Fails only when out of memory.
-fn tell_chain<R: AllocGlobal + Eprint + Wait>(
+fn tell_chain<R: AllocGlobal + Eprint + Wait, N: Named>(
     rt: &R,
-    store: &RunningStore,
+    store: &RunningStore<N>,
     index: u16,
     chain: &ChainStatus,
 ) -> Result<(), AllocError> {
@@ -152,9 +152,9 @@ fn tell_chain<R: AllocGlobal + Eprint + Wait>(
 }
 
 /// Prints each chain. Fails only when out of memory.
-fn tell_chains<R: AllocGlobal + Eprint + Wait>(
+fn tell_chains<R: AllocGlobal + Eprint + Wait, N: Named>(
     rt: &R,
-    store: &RunningStore,
+    store: &RunningStore<N>,
     chains: &[ChainStatus],
 ) -> Result<(), AllocError> {
     for (index, chain) in (0..MOST_CHAINS).zip(chains.iter()) {
@@ -164,13 +164,14 @@ fn tell_chains<R: AllocGlobal + Eprint + Wait>(
 }
 
 /// Does what a line asks for, and prints its answer. Fails only when out of memory.
-fn run_line<R>(
+fn run_line<R, N>(
     rt: R,
-    store: &RunningStore,
+    store: &RunningStore<N>,
     chains: &[ChainStatus],
     line: ControlLine,
 ) -> Result<(), AllocError>
 where
+    N: Named + Send + 'static,
     R: AllocGlobal + Eprint + Threads + Wait + Copy + Send + 'static,
 {
     match line {
@@ -218,8 +219,9 @@ fn names_of(alloc: Global, chains: &[ChainStatus]) -> Result<Vec<&str>, AllocErr
 }
 
 /// Runs a line by its text. Fails only when out of memory.
-fn run_text<R>(rt: R, store: &RunningStore, text: &str) -> Result<(), AllocError>
+fn run_text<R, N>(rt: R, store: &RunningStore<N>, text: &str) -> Result<(), AllocError>
 where
+    N: Named + Send + 'static,
     R: AllocGlobal + Eprint + Threads + Wait + Copy + Send + 'static,
 {
     let chains = store.status(&rt)?;
@@ -233,8 +235,9 @@ where
 }
 
 /// Runs a line.
-fn run_input<R>(rt: R, store: &RunningStore, line: InputLine)
+fn run_input<R, N>(rt: R, store: &RunningStore<N>, line: InputLine)
 where
+    N: Named + Send + 'static,
     R: AllocGlobal + Eprint + Threads + Wait + Copy + Send + 'static,
 {
     let _ = match line {
@@ -251,8 +254,9 @@ where
 }
 
 /// Runs the lines that come into a slot, until the server is over.
-pub fn run_lines<R>(rt: R, store: &RunningStore, slot: &LineSlot)
+pub fn run_lines<R, N>(rt: R, store: &RunningStore<N>, slot: &LineSlot)
 where
+    N: Named + Send + 'static,
     R: AllocGlobal + Eprint + Threads + Wait + Copy + Send + 'static,
 {
     for _ in rt.forever() {

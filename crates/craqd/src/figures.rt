@@ -7,7 +7,7 @@ use craq_metrics::{ChainFigures, NodeFigures, ServerFigures};
 use craq_names::{ChainId, NodeId, NodeName, Refusal};
 use craq_place::MOST_CHAINS;
 use craq_server::Counts;
-use craq_workers::ChainStatus;
+use craq_workers::{ChainStatus, Named};
 use std::alloc::AllocError;
 use std::sync::Wait;
 
@@ -29,9 +29,9 @@ pub const fn server_figures(counts: &Counts, uptime: u64) -> ServerFigures
     }
 }
 
-/// Returns the figures of a node.
-const fn node_figures(node: NodeId, core: &CoreFigures) -> NodeFigures
-    ensures { result ≡ record { node = node; is_ready = core.now.is_ready; is_running = core.now.is_running; length = core.now.length; committed = core.now.committed; waiting = min (core.now.waiting_updates + core.now.waiting_reads) (2 ^ 64 - 1); objects = core.now.objects; bytes = core.now.bytes } }
+/// Returns the figures of a node that lost this many messages.
+const fn node_figures(node: NodeId, core: &CoreFigures, lost: u64) -> NodeFigures
+    ensures { result ≡ record { node = node; is_ready = core.now.is_ready; is_running = core.now.is_running; length = core.now.length; committed = core.now.committed; waiting = min (core.now.waiting_updates + core.now.waiting_reads) (2 ^ 64 - 1); objects = core.now.objects; bytes = core.now.bytes; lost = lost } }
 {
     NodeFigures {
         node: node.get(),
@@ -42,22 +42,34 @@ const fn node_figures(node: NodeId, core: &CoreFigures) -> NodeFigures
         waiting: (core.waiting_updates as u64).saturating_add(core.waiting_reads as u64),
         objects: core.objects,
         bytes: core.bytes,
+        lost,
     }
+}
+
+/// Returns the figures of a node. Refused as `Store::look` is.
+fn node_of<R: AllocGlobal + Wait, N: Named>(
+    rt: &R,
+    store: &RunningStore<N>,
+    name: &NodeName,
+) -> Result<NodeFigures, Refusal> {
+    let core = store.look(rt, name, |core| figures_of(core.core()))?;
+    let lost = store.losses(rt, name)?;
+    Ok(node_figures(name.node, &core, lost))
 }
 
 /// Returns the figures of these nodes of a chain, in this order; a node that is gone by now is left
 /// out. Fails only when out of memory.
-fn nodes_of<R: AllocGlobal + Wait>(
+fn nodes_of<R: AllocGlobal + Wait, N: Named>(
     rt: &R,
-    store: &RunningStore,
+    store: &RunningStore<N>,
     chain: ChainId,
     ids: &[NodeId],
 ) -> Result<Vec<NodeFigures>, AllocError> {
     let mut nodes = Vec::new(rt.alloc());
     for id in ids {
         let node = *id;
-        match store.look(rt, &NodeName { chain, node }, |core| figures_of(core)) {
-            Ok(core) => nodes.push(node_figures(node, &core))?,
+        match node_of(rt, store, &NodeName { chain, node }) {
+            Ok(figures) => nodes.push(figures)?,
             Err(Refusal::Memory) => return Err(AllocError),
             Err(_) => (),
         }
@@ -66,9 +78,9 @@ fn nodes_of<R: AllocGlobal + Wait>(
 }
 
 /// Returns the figures of a chain. Fails only when out of memory.
-fn chain_of<R: AllocGlobal + Wait>(
+fn chain_of<R: AllocGlobal + Wait, N: Named>(
     rt: &R,
-    store: &RunningStore,
+    store: &RunningStore<N>,
     chain: ChainId,
     status: ChainStatus,
 ) -> Result<ChainFigures, AllocError> {
@@ -82,9 +94,9 @@ fn chain_of<R: AllocGlobal + Wait>(
 }
 
 /// Returns the figures of a store's chains, by id. Fails only when out of memory.
-pub fn chain_figures<R: AllocGlobal + Wait>(
+pub fn chain_figures<R: AllocGlobal + Wait, N: Named>(
     rt: &R,
-    store: &RunningStore,
+    store: &RunningStore<N>,
 ) -> Result<Vec<ChainFigures>, AllocError> {
     let mut chains = Vec::new(rt.alloc());
     for (id, status) in (0..MOST_CHAINS).zip(store.status(rt)?) {

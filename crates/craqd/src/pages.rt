@@ -9,6 +9,7 @@ use craq_metrics::{
     metrics_text, response, status_text,
 };
 use craq_server::{Attempt, Connections, try_accept, wait_for_connection};
+use craq_workers::Named;
 use std::alloc::AllocError;
 use std::io::{ErrorKind, Read, Write};
 use std::net::{TcpListener, TcpStream};
@@ -48,9 +49,9 @@ const NO_REQUEST: &str = "expected a request of HTTP/1.1\n";
 
 /// The pages of a server.
 #[derive(Drop)]
-pub struct Pages<'s, R: Wait> {
+pub struct Pages<'s, R: Wait, N: Named> {
     rt: R,
-    store: &'s RunningStore,
+    store: &'s RunningStore<N>,
     connections: &'s Connections,
     listener: &'s TcpListener,
     /// The time at which the server started, if the clock gave it.
@@ -82,14 +83,15 @@ const fn status_of(asked: Asked) -> HttpStatus
     }
 }
 
-impl<'s, R> Pages<'s, R>
+impl<'s, R, N> Pages<'s, R, N>
 where
+    N: Named + Send + 'static,
     R: AllocGlobal + Clock + Threads + Wait + Copy + Drop + Send + Sync + 'static,
 {
     /// Makes the pages of a server, which starts now. Takes no memory.
     pub fn new(
         rt: R,
-        store: &'s RunningStore,
+        store: &'s RunningStore<N>,
         connections: &'s Connections,
         listener: &'s TcpListener,
     ) -> Self {

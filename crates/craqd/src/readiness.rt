@@ -8,6 +8,7 @@ use crate::serving::RunningStore;
 use craq_commands::ReadMode;
 use craq_model::Ask;
 use craq_names::{ChainId, Key, NodeId, NodeName, ObjectId, Pass, Refusal};
+use craq_workers::Named;
 use std::alloc::{AllocError, Global};
 use std::sync::Wait;
 
@@ -78,13 +79,13 @@ fn trial_of(alloc: Global, node: &NodeName) -> Result<Ask, AllocError> {
 
 /// Returns the condition of a node of a store. The read that tells it changes no object and raises
 /// the node's stamp. Fails only when out of memory.
-fn condition_of<R: AllocGlobal + Wait>(
+fn condition_of<R: AllocGlobal + Wait, N: Named>(
     rt: &R,
-    store: &RunningStore,
+    store: &RunningStore<N>,
     node: NodeName,
 ) -> Result<Condition, AllocError> {
     let trial = trial_of(rt.alloc(), &node)?;
-    let mut client = store.client(Pass::start())?;
+    let mut client = store.client(rt, Pass::start())?;
     match client.call(rt, node, trial) {
         Ok(answered) => {
             drop(answered);
@@ -97,9 +98,9 @@ fn condition_of<R: AllocGlobal + Wait>(
 
 /// Returns the members of a chain with their conditions, in this order. Fails only when out of
 /// memory.
-pub fn members_of<R: AllocGlobal + Wait>(
+pub fn members_of<R: AllocGlobal + Wait, N: Named>(
     rt: &R,
-    store: &RunningStore,
+    store: &RunningStore<N>,
     chain: ChainId,
     ids: &[NodeId],
 ) -> Result<Vec<Member>, AllocError>

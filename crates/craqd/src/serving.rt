@@ -14,9 +14,10 @@ use crate::ticking::tick_chains;
 use craq_cli::Line;
 use craq_compact_history::ListCore;
 use craq_server::{Connections, EventLoops, Log, ServeReport as Accepted, Serving, accept_with};
-use craq_workers::{OpenGate, Store};
+use craq_workers::{At, Named, OpenGate, OpenedHistory, Store, open_history};
 use std::alloc::AllocError;
 use std::io::{ErrorKind, Input, StdinLock};
+use std::marker::Brand;
 use std::net::{Net, TcpListener, TcpStream};
 use std::rt::Files;
 use std::sync::atomic::{AtomicBool, Ordering};
@@ -25,8 +26,8 @@ use std::thread;
 use std::thread::{Scope, Threads};
 use std::time::Clock;
 
-/// The stores that are served.
-pub type RunningStore = Store<ListCore, OpenGate>;
+/// The stores that are served, with the name of their history.
+pub type RunningStore<N> = Store<At<ListCore, N>, OpenGate>;
 
 /// Listens on an address.
 fn listen<R>(rt: &R, address: &str) -> Result<TcpListener, Fault>
@@ -78,16 +79,16 @@ struct InputParts<'s> {
 
 /// A store that is served, and its listener.
 #[derive(Drop)]
-struct Service<'s, R: Wait> {
+struct Service<'s, R: Wait, N: Named> {
     rt: R,
-    store: &'s RunningStore,
+    store: &'s RunningStore<N>,
     listener: &'s TcpListener,
     port: u16,
     connections: &'s Connections,
     /// The slot of its control lines, where it takes any.
     slot: Option<&'s LineSlot>,
     /// The pages of its metrics, where it serves them.
-    pages: Option<&'s Pages<'s, R>>,
+    pages: Option<&'s Pages<'s, R, N>>,
     /// True where the server is over.
     over: AtomicBool,
 }
@@ -106,8 +107,9 @@ fn combine_results(
     }
 }
 
-impl<R> Service<'_, R>
+impl<R, N> Service<'_, R, N>
 where
+    N: Named + Send + 'static,
     R: AllocGlobal + Eprint + Clock + Threads + Wait + Copy + Drop + Send + Sync + 'static,
 {
     /// Serves the connections until the server is to end and all are over. Fails where a thread, or
@@ -210,8 +212,9 @@ where
     }
 }
 
-impl<R> Service<'_, R>
+impl<R, N> Service<'_, R, N>
 where
+    N: Named + Send + 'static,
     R: AllocGlobal + Print + Eprint + Clock + Threads + Wait + Copy,
     R: Drop + Send + Sync + 'static,
 {
@@ -227,8 +230,9 @@ where
 /// Prints what the audits of a store with journals find. Then `CannotListen` where the listener
 /// failed, or `Memory` where some connection was ended at once because the process was out of
 /// memory or threads.
-fn finish<R>(rt: &R, store: &RunningStore, accepted: Accepted) -> Result<(), Fault>
+fn finish<R, N>(rt: &R, store: &RunningStore<N>, accepted: Accepted) -> Result<(), Fault>
 where
+    N: Named + Send + 'static,
     R: AllocGlobal + Print + Wait,
 {
     let Accepted {
@@ -319,13 +323,14 @@ impl Listeners<'_> {
 }
 
 /// Returns the pages of a server's metrics, where it serves them.
-fn pages_of<'s, R>(
+fn pages_of<'s, R, N>(
     rt: R,
-    store: &'s RunningStore,
+    store: &'s RunningStore<N>,
     listeners: Listeners<'s>,
     connections: &'s Connections,
-) -> Option<Pages<'s, R>>
+) -> Option<Pages<'s, R, N>>
 where
+    N: Named + Send + 'static,
     R: AllocGlobal + Clock + Threads + Wait + Copy + Drop + Send + Sync + 'static,
 {
     let listener = listeners.metrics?;
@@ -333,14 +338,15 @@ where
 }
 
 /// Serves the connections of a listener to a store as a command line asks for.
-fn serve_listeners<'s, R>(
+fn serve_listeners<'s, R, N>(
     rt: R,
-    store: &'s RunningStore,
+    store: &'s RunningStore<N>,
     line: &Line<'_>,
     listeners: Listeners<'s>,
     parts: InputParts<'s>,
 ) -> Result<(), Fault>
 where
+    N: Named + Send + 'static,
     R: AllocGlobal + Input<Reader = StdinLock<'static>> + Print + Eprint + Clock,
     R: Threads + Wait + Copy + Drop + Send + Sync + 'static,
     R: Net<Listener = TcpListener, Stream = TcpStream>,
@@ -367,8 +373,9 @@ where
 }
 
 /// Listens as a command line asks for and serves the connections to a store.
-fn serve_store<R>(rt: R, store: &RunningStore, line: &Line<'_>) -> Result<(), Fault>
+fn serve_store<R, N>(rt: R, store: &RunningStore<N>, line: &Line<'_>) -> Result<(), Fault>
 where
+    N: Named + Send + 'static,
     R: AllocGlobal + Input<Reader = StdinLock<'static>> + Print + Eprint + Clock,
     R: Threads + Wait + Copy + Drop + Send + Sync + 'static,
     R: Net<Listener = TcpListener, Stream = TcpStream>,
@@ -401,16 +408,33 @@ const fn gate_of(line: &Line<'_>) -> OpenGate
 
 /// Starts a store of the chains of a plan file, with journals exactly where the command line asks
 /// for them.
-fn store_of<R>(rt: R, line: &Line<'_>) -> Result<RunningStore, Fault>
+fn store_of<R, N>(rt: R, line: &Line<'_>, opened: OpenedHistory) -> Result<RunningStore<N>, Fault>
 where
+    N: Named + Send + 'static,
     R: AllocGlobal + Files + Threads + Wait + Copy + Send + 'static,
+    requires { opened ≡ N.history }
     ensures { IfOk result (λ store. store.journals ≡ line.now.journal) }
 {
     let plan = plan_of(&rt, line.plan)?;
-    match Store::start(rt, rt.alloc(), &plan, gate_of(line), line.journal) {
+    match Store::start(rt, rt.alloc(), opened, &plan, gate_of(line), line.journal) {
         Ok(store) => Ok(store),
         Err(_) => Err(Fault::Memory),
     }
+}
+
+/// Serves as a command line asks for, with a store of this history.
+fn serve_named<R, N>(rt: R, line: &Line<'_>, opened: OpenedHistory) -> Result<(), Fault>
+where
+    N: Named + Send + 'static,
+    R: AllocGlobal + Files + Input<Reader = StdinLock<'static>> + Print + Eprint + Clock,
+    R: Threads + Wait + Copy,
+    R: Drop + Send + Sync + 'static + Net<Listener = TcpListener, Stream = TcpStream>,
+    requires { opened ≡ N.history }
+{
+    let store = store_of::<R, N>(rt, line, opened)?;
+    let served = serve_store(rt, &store, line);
+    store.close(&rt);
+    served
 }
 
 /// Serves as a command line asks for.
@@ -420,8 +444,6 @@ where
     R: Threads + Wait + Copy,
     R: Drop + Send + Sync + 'static + Net<Listener = TcpListener, Stream = TcpStream>,
 {
-    let store = store_of(rt, line)?;
-    let served = serve_store(rt, &store, line);
-    store.close(&rt);
-    served
+    let opened = open_history(rt.alloc())?;
+    serve_named::<R, Brand>(rt, line, opened)
 }

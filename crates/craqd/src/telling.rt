@@ -4,7 +4,7 @@ ghost use Rattle.std.specs.Prelude.{◌<◌, ◌⊎◌, ◌↔◌, IsTrue};
 use crate::serving::RunningStore;
 use craq_cli::{Line, VERSION};
 use craq_names::NodeId;
-use craq_workers::ChainStatus;
+use craq_workers::{ChainStatus, Named};
 use std::alloc::{AllocError, Global};
 use std::sync::Wait;
 
@@ -100,9 +100,9 @@ fn served_text(
 
 /// Prints on standard error, in one line, what is served and where. Nothing is printed where
 /// standard error takes no text. Fails only when out of memory.
-pub fn tell_serving<R: AllocGlobal + Eprint + Wait>(
+pub fn tell_serving<R: AllocGlobal + Eprint + Wait, N: Named>(
     rt: &R,
-    store: &RunningStore,
+    store: &RunningStore<N>,
     line: &Line<'_>,
     ports: Ports,
 ) -> Result<(), AllocError> {

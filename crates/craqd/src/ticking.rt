@@ -4,6 +4,7 @@ ghost use Rattle.std.specs.Prelude.{◌≡◌, ◌-◌, ◌+◌, ◌/◌, nat_lt
 use crate::serving::RunningStore;
 use craq_names::ChainId;
 use craq_place::MOST_CHAINS;
+use craq_workers::Named;
 use std::sync::Wait;
 use std::sync::atomic::{AtomicBool, Ordering};
 use std::thread;
@@ -33,7 +34,7 @@ const fn after(chain: u16, chains: u16) -> u16
 }
 
 /// Ticks each chain once. Returns how many there are, at most 64.
-fn tick_each<R: Wait>(rt: &R, store: &RunningStore) -> u16 {
+fn tick_each<R: Wait, N: Named>(rt: &R, store: &RunningStore<N>) -> u16 {
     let mut count = 0;
     for chain in 0..MOST_CHAINS {
         if store.tick_chain(rt, ChainId::new(chain)).is_err() {
@@ -47,7 +48,7 @@ fn tick_each<R: Wait>(rt: &R, store: &RunningStore) -> u16 {
 /// Ticks the chains until `over` is set, each about every 50 ms. At its start it ticks all of them,
 /// and from then on one after another with an even pause between: with 64 chains no two work at the
 /// same moment for the sake of a tick.
-pub fn tick_chains<R: Clock + Wait>(rt: &R, store: &RunningStore, over: &AtomicBool) {
+pub fn tick_chains<R: Clock + Wait, N: Named>(rt: &R, store: &RunningStore<N>, over: &AtomicBool) {
     let chains = tick_each(rt, store);
     let pause = Duration::from_micros(pause_of(chains));
     let mut chain = 0;

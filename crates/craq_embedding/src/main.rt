@@ -2,6 +2,8 @@
 //! audit of the whole run. CI runs it, and the page on embedding explains it line by line.
 #![tactic(auto)]
 
+ghost use Rattle.std.specs.Prelude.{◌≡◌};
+
 use craq_audit::Audit;
 use craq_commands::{Command, ReadMode, Update};
 use craq_compact_history::ListCore;
@@ -12,8 +14,9 @@ use craq_names::{
 use craq_place::Plan;
 use craq_seat::CallReceipt;
 use craq_text::print_answer;
-use craq_workers::{Client, OpenGate, Store};
+use craq_workers::{At, Client, Named, OpenGate, OpenedHistory, Store, open_history};
 use std::alloc::{AllocError, Global};
+use std::marker::Brand;
 use std::process::ExitCode;
 use std::sync::Wait;
 use std::sync::atomic::{AtomicBool, Ordering};
@@ -23,8 +26,8 @@ use std::{io, thread};
 use thiserror::Error;
 
 /// The type of this program's stores: the nodes keep compacted histories, and callers run the steps
-/// themselves.
-type Embedded = Store<ListCore, OpenGate>;
+/// themselves. `N` names the store's history, which exists in the proofs alone.
+type Embedded<N> = Store<At<ListCore, N>, OpenGate>;
 
 /// A request: a put with its number and value, or a strong read.
 #[derive(Clone, Copy)]
@@ -35,8 +38,8 @@ enum Wish<'a> {
 
 /// A client of a store, and the receipts of its calls.
 #[derive(Drop)]
-struct Caller {
-    client: Client<ListCore, OpenGate>,
+struct Caller<N: Named> {
+    client: Client<At<ListCore, N>, OpenGate>,
     receipts: Vec<CallReceipt>,
 }
 
@@ -97,7 +100,7 @@ fn text_of(alloc: Global, answer: &Answer) -> Result<String, Refusal> {
     Ok(text)
 }
 
-impl Caller {
+impl<N: Named + Send + 'static> Caller<N> {
     /// Sends one request to a node, keeps the receipt, and returns the reply as text.
     fn call<R>(&mut self, rt: &R, node: NodeName, wish: Wish<'_>) -> Result<String, Refusal>
     where
@@ -131,7 +134,7 @@ impl Caller {
     }
 
     /// Sends requests before and after the tail changes, and has the run audited.
-    fn work<R>(&mut self, rt: R, store: &Embedded) -> Result<(), Fault>
+    fn work<R>(&mut self, rt: R, store: &Embedded<N>) -> Result<(), Fault>
     where
         R: AllocGlobal + Print + Clock + Threads + Wait + Copy + Send + 'static,
     {
@@ -145,8 +148,9 @@ impl Caller {
 }
 
 /// Stops and removes the tail, and adds another node.
-fn change_tail<R>(rt: R, store: &Embedded) -> Result<(), Fault>
+fn change_tail<R, N>(rt: R, store: &Embedded<N>) -> Result<(), Fault>
 where
+    N: Named + Send + 'static,
     R: Print + Threads + Wait + Copy + Send + 'static,
 {
     let chain = ChainId::new(CHAIN);
@@ -157,9 +161,9 @@ where
 }
 
 /// Prints the audit's findings on the chain's journals and these receipts.
-fn print_audit<R: Print + Wait>(
+fn print_audit<R: Print + Wait, N: Named + Send + 'static>(
     rt: &R,
-    store: &Embedded,
+    store: &Embedded<N>,
     receipts: &[CallReceipt],
 ) -> Result<(), Fault> {
     let count = receipts.len();
@@ -172,19 +176,20 @@ fn print_audit<R: Print + Wait>(
 }
 
 /// Works with a store as one of its clients.
-fn work<R>(rt: R, store: &Embedded) -> Result<(), Fault>
+fn work<R, N>(rt: R, store: &Embedded<N>) -> Result<(), Fault>
 where
+    N: Named + Send + 'static,
     R: AllocGlobal + Print + Clock + Threads + Wait + Copy + Send + 'static,
 {
     let mut caller = Caller {
-        client: store.client(Pass::start())?,
+        client: store.client(&rt, Pass::start())?,
         receipts: Vec::new(rt.alloc()),
     };
     caller.work(rt, store)
 }
 
 /// Ticks every node until `over` is set, so that nodes resend what others may lack.
-fn tick<R: Clock + Wait>(rt: &R, store: &Embedded, over: &AtomicBool) {
+fn tick<R: Clock + Wait, N: Named>(rt: &R, store: &Embedded<N>, over: &AtomicBool) {
     for _ in rt.forever() {
         if over.load(Ordering::SeqCst) {
             break;
@@ -195,8 +200,9 @@ fn tick<R: Clock + Wait>(rt: &R, store: &Embedded, over: &AtomicBool) {
 }
 
 /// Works with a store that another thread ticks meanwhile.
-fn work_ticked<R>(rt: R, store: &Embedded) -> Result<(), Fault>
+fn work_ticked<R, N>(rt: R, store: &Embedded<N>) -> Result<(), Fault>
 where
+    N: Named + Send + 'static,
     R: AllocGlobal + Print + Clock + Threads + Wait + Copy + Drop + Send + Sync + 'static,
 {
     let over = AtomicBool::new(false);
@@ -211,20 +217,31 @@ where
     })
 }
 
-/// Starts the store, works with it and closes it.
-fn run<R>(rt: R) -> Result<(), Fault>
+/// Starts the store with this history, works with it and closes it.
+fn run<N, R>(rt: R, opened: OpenedHistory) -> Result<(), Fault>
 where
+    N: Named + Send + 'static,
     R: AllocGlobal + Print + Clock + Threads + Wait + Copy + Drop + Send + Sync + 'static,
+    requires { opened ≡ N.history }
 {
     let plan = Plan::read(rt.alloc(), PLAN_TEXT)?;
     let gate = OpenGate {
         in_place: true,
         chain_threads: false,
     };
-    let store = Store::start(rt, rt.alloc(), &plan, gate, true)?;
+    let store: Embedded<N> = Store::start(rt, rt.alloc(), opened, &plan, gate, true)?;
     let worked = work_ticked(rt, &store);
     store.close(&rt);
     worked
+}
+
+/// Opens the store's history, and runs the program with it.
+fn begin<R>(rt: R) -> Result<(), Fault>
+where
+    R: AllocGlobal + Print + Clock + Threads + Wait + Copy + Drop + Send + Sync + 'static,
+{
+    let opened = open_history(rt.alloc())?;
+    run::<Brand, R>(rt, opened)
 }
 
 /// Reports why the program ended early, and returns the exit status.
@@ -234,7 +251,7 @@ fn report<R: Eprint>(rt: &R, fault: &Fault) -> u8 {
 }
 
 fn main(rt: HostRuntime) -> ExitCode {
-    match run(rt) {
+    match begin(rt) {
         Ok(()) => ExitCode::from(0),
         Err(fault) => ExitCode::from(report(&rt, &fault)),
     }

@@ -7,7 +7,7 @@ use craq_compact_history::ListCore;
 use craq_model::Ask;
 use craq_names::{Pass, Refusal};
 use craq_seat::CallReceipt;
-use craq_workers::Client;
+use craq_workers::{At, Client, Named};
 use std::alloc::{AllocError, Global};
 use std::sync::Wait;
 
@@ -17,9 +17,9 @@ const KEY: &[u8] = b"k";
 /// A client of a store under test. It uses one object of chain 0, and keeps the receipts of its
 /// calls.
 #[derive(Drop)]
-pub struct Asker {
+pub struct Asker<N: Named> {
     alloc: Global,
-    client: Client<ListCore, TestGate>,
+    client: Client<At<ListCore, N>, TestGate>,
     id: u64,
     /// The request number of its next put.
     number: u64,
@@ -28,12 +28,17 @@ pub struct Asker {
     pub receipts: Vec<CallReceipt>,
 }
 
-impl Asker {
+impl<N: Named> Asker<N> {
     /// Creates a client of this id that has no pass yet.
-    pub fn new(alloc: Global, store: &Tested, id: u64) -> Result<Asker, Refusal> {
+    pub fn new<R: Wait>(
+        rt: &R,
+        alloc: Global,
+        store: &Tested<N>,
+        id: u64,
+    ) -> Result<Self, Refusal> {
         Ok(Asker {
             alloc,
-            client: store.client(Pass::start())?,
+            client: store.client(rt, Pass::start())?,
             id,
             number: 1,
             version: 0,
@@ -65,7 +70,7 @@ impl Asker {
     }
 
     /// Appends the receipts of another client to its own.
-    pub fn take_receipts(&mut self, other: &mut Asker) -> Result<(), AllocError> {
+    pub fn take_receipts(&mut self, other: &mut Self) -> Result<(), AllocError> {
         self.receipts.append(&mut other.receipts)
     }
 }

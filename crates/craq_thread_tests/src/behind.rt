@@ -5,6 +5,7 @@ use crate::fault::{Fact, Fault, expect};
 use crate::gate::Tested;
 use crate::waits::{LIMIT, wait_for};
 use craq_names::Refusal;
+use craq_workers::Named;
 use std::sync::Wait;
 use std::sync::atomic::{AtomicBool, Ordering};
 use std::thread;
@@ -14,9 +15,9 @@ use std::thread::Threads;
 const A_WHILE: u64 = 10;
 
 /// Audits the chain, and sets a flag when the audit begins and another when it has ended.
-fn audit_between<R: Wait>(
+fn audit_between<R: Wait, N: Named + Send + 'static>(
     rt: &R,
-    store: &Tested,
+    store: &Tested<N>,
     begun: &AtomicBool,
     ended: &AtomicBool,
 ) -> Result<(), Fault> {
@@ -30,13 +31,14 @@ fn audit_between<R: Wait>(
 /// node's lock.
 ///
 /// The audit must not end before `open` releases the work item, and must then find a run.
-pub fn audit_behind<R>(
+pub fn audit_behind<R, N>(
     rt: R,
     host: HostRuntime,
-    store: &Tested,
+    store: &Tested<N>,
     open: &AtomicBool,
 ) -> Result<(), Fault>
 where
+    N: Named + Send + 'static,
     R: Threads + Wait + Copy + Send + 'static,
 {
     let begun = AtomicBool::new(false);

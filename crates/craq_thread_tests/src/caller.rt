@@ -8,7 +8,7 @@ use craq_commands::ReadMode;
 use craq_compact_history::ListCore;
 use craq_model::Ask;
 use craq_names::{Pass, Refusal};
-use craq_workers::Client;
+use craq_workers::{At, Client, Named};
 use std::alloc::Global;
 use std::sync::Wait;
 use std::sync::atomic::Ordering;
@@ -21,9 +21,9 @@ const TRIES: u32 = 3000;
 
 /// A client of one chain. No other client writes its objects.
 #[derive(Drop)]
-pub struct Caller {
+pub struct Caller<N: Named> {
     alloc: Global,
-    client: Client<ListCore, TestGate>,
+    client: Client<At<ListCore, N>, TestGate>,
     id: u8,
 }
 
@@ -32,10 +32,10 @@ fn version_after(number: u64) -> u64 {
     (number.saturating_sub(1) / OBJECTS).saturating_add(1)
 }
 
-impl Caller {
+impl<N: Named> Caller<N> {
     /// Creates a client of this id that has no pass yet.
-    pub fn new(alloc: Global, store: &Tested, id: u8) -> Result<Caller, Refusal> {
-        let client = store.client(Pass::start())?;
+    pub fn new<R: Wait>(rt: &R, alloc: Global, store: &Tested<N>, id: u8) -> Result<Self, Refusal> {
+        let client = store.client(rt, Pass::start())?;
         Ok(Caller { alloc, client, id })
     }
 

@@ -1,4 +1,6 @@
 //! Runs each case on a store of its own, which is closed at the end; called by `judge`.
+ghost use Rattle.std.specs.Prelude.{◌≡◌};
+
 use crate::asker::Asker;
 use crate::calls::{free, overlap, read_back, stop, taking};
 use crate::case::Case;
@@ -10,19 +12,22 @@ use crate::gate::{TestGate, Tested, start_store};
 use crate::members::{expect_threads, members};
 use crate::waits::ALONE;
 use craq_names::Refusal;
+use craq_workers::{Named, OpenedHistory, open_history};
+use std::marker::Brand;
 use std::sync::{Arc, Wait};
 use std::thread::Threads;
 
 /// Runs a case on its store.
-fn try_on<R>(
+fn try_on<R, N>(
     rt: R,
     host: HostRuntime,
     case: Case,
     form: Form,
-    store: &Tested,
+    store: &Tested<N>,
     signs: &Signs,
 ) -> Result<(), Fault>
 where
+    N: Named + Send + 'static,
     R: Threads + Wait + Copy + Send + 'static,
 {
     match case {
@@ -36,47 +41,51 @@ where
     }
 }
 
-/// Starts a store for a case.
-fn start<R>(
-    rt: R,
+/// Makes the fault-injection hook of a case.
+fn gate_of(
     host: HostRuntime,
     case: Case,
     form: Form,
     signs: &Arc<Signs>,
-) -> Result<Tested, Fault>
-where
-    R: Threads + Wait + Copy + Send + 'static,
-{
+) -> Result<TestGate, Fault> {
     let signs = Arc::try_clone(signs)?;
-    let gate = TestGate::Case(CaseGate {
+    Ok(TestGate::Case(CaseGate {
         clock: host,
         case,
         form,
         signs,
-    });
-    Ok(start_store(rt, host.alloc(), gate, case.has_journals())?)
+    }))
 }
 
 /// Expects that a call of a closed store returns `Closed`, and that no thread of the store is left.
-fn is_closed<R: Wait>(
+fn is_closed<R: Wait, N: Named>(
     rt: &R,
     host: HostRuntime,
-    asker: Result<Asker, Refusal>,
+    asker: Result<Asker<N>, Refusal>,
 ) -> Result<(), Fault> {
     let refusal = asker?.read(rt, 2).err();
     expect_refusal(refusal, Refusal::Closed, Fact::IsClosed)?;
     expect_threads(host, ALONE)
 }
 
-/// Starts a store for a case, runs the case on it, and closes it.
-pub fn try_case<R>(rt: R, host: HostRuntime, case: Case, form: Form) -> Result<(), Fault>
+/// Starts a store with this history for a case, runs the case on it, and closes it.
+fn try_named<N, R>(
+    rt: R,
+    host: HostRuntime,
+    case: Case,
+    form: Form,
+    opened: OpenedHistory,
+) -> Result<(), Fault>
 where
+    N: Named + Send + 'static,
     R: Threads + Wait + Copy + Send + 'static,
+    requires { opened ≡ N.history }
 {
     let signs = Arc::new(host.alloc(), Signs::new())?;
-    let store = start(rt, host, case, form, &signs)?;
+    let gate = gate_of(host, case, form, &signs)?;
+    let store: Tested<N> = start_store(rt, host.alloc(), opened, gate, case.has_journals())?;
     let tried = try_on(rt, host, case, form, &store, &signs);
-    let asker = Asker::new(host.alloc(), &store, 9);
+    let asker = Asker::new(&rt, host.alloc(), &store, 9);
     store.close(&rt);
     match tried {
         Ok(()) => is_closed(&rt, host, asker),
@@ -85,4 +94,13 @@ where
             Err(fault)
         }
     }
+}
+
+/// Runs a case on a store of its own.
+pub fn try_case<R>(rt: R, host: HostRuntime, case: Case, form: Form) -> Result<(), Fault>
+where
+    R: Threads + Wait + Copy + Send + 'static,
+{
+    let opened = open_history(host.alloc())?;
+    try_named::<Brand, R>(rt, host, case, form, opened)
 }

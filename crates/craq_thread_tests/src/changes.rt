@@ -9,6 +9,7 @@ use crate::gate::Tested;
 use crate::waits::rest;
 use craq_names::{NodeId, Refusal};
 use craq_seat::CallReceipt;
+use craq_workers::Named;
 use std::alloc::AllocError;
 use std::sync::atomic::{AtomicU32, AtomicU64, Ordering};
 use std::sync::{Arc, Wait};
@@ -60,7 +61,7 @@ impl Course {
     }
 
     /// Sends a put to the head.
-    fn put<R: Wait>(&self, rt: &R, asker: &mut Asker) -> Result<(), Refusal> {
+    fn put<R: Wait, N: Named>(&self, rt: &R, asker: &mut Asker<N>) -> Result<(), Refusal> {
         self.waiting.fetch_add(1, Ordering::SeqCst);
         let put = asker.put(rt, self.head.load(Ordering::SeqCst));
         self.waiting.fetch_sub(1, Ordering::SeqCst);
@@ -69,7 +70,7 @@ impl Course {
     }
 
     /// Sends a put for an even `turn`, a read for an odd one. After a refusal the client rests.
-    fn call<R: Wait>(&self, rt: &R, host: HostRuntime, asker: &mut Asker, turn: u64) {
+    fn call<R: Wait, N: Named>(&self, rt: &R, host: HostRuntime, asker: &mut Asker<N>, turn: u64) {
         let called = if turn % 2 == 0 {
             self.put(rt, asker)
         } else {
@@ -84,7 +85,12 @@ impl Course {
 }
 
 /// Makes all calls of a client.
-fn ask_on<R: Wait>(rt: &R, host: HostRuntime, mut asker: Asker, course: &Course) -> Asker {
+fn ask_on<R: Wait, N: Named>(
+    rt: &R,
+    host: HostRuntime,
+    mut asker: Asker<N>,
+    course: &Course,
+) -> Asker<N> {
     for turn in 0..CALLS {
         course.call(rt, host, &mut asker, turn);
     }
@@ -92,10 +98,10 @@ fn ask_on<R: Wait>(rt: &R, host: HostRuntime, mut asker: Asker, course: &Course)
 }
 
 /// Ticks until a counter reaches a number, or the polls are used up.
-fn tick_until<R: Wait>(
+fn tick_until<R: Wait, N: Named>(
     rt: &R,
     host: HostRuntime,
-    store: &Tested,
+    store: &Tested<N>,
     counter: &AtomicU64,
     wanted: u64,
 ) {
@@ -109,7 +115,12 @@ fn tick_until<R: Wait>(
 }
 
 /// Ticks until no call finishes for a while, or the polls are used up.
-fn tick_until_stuck<R: Wait>(rt: &R, host: HostRuntime, store: &Tested, made: &AtomicU64) {
+fn tick_until_stuck<R: Wait, N: Named>(
+    rt: &R,
+    host: HostRuntime,
+    store: &Tested<N>,
+    made: &AtomicU64,
+) {
     let mut before = TOTAL;
     for turn in 0..MOST_TURNS {
         store.tick(rt);
@@ -126,8 +137,14 @@ fn tick_until_stuck<R: Wait>(rt: &R, host: HostRuntime, store: &Tested, made: &A
 
 /// Stops the last node so that puts wait, adds another, and removes the stopped one. Returns the
 /// number of puts that waited.
-fn change_tail<R>(rt: R, host: HostRuntime, store: &Tested, course: &Course) -> Result<u64, Refusal>
+fn change_tail<R, N>(
+    rt: R,
+    host: HostRuntime,
+    store: &Tested<N>,
+    course: &Course,
+) -> Result<u64, Refusal>
 where
+    N: Named + Send + 'static,
     R: Threads + Wait + Copy + Send + 'static,
 {
     let chain = chain();
@@ -141,7 +158,11 @@ where
 }
 
 /// Stops and removes the first node.
-fn change_head<R: Wait>(rt: &R, store: &Tested, course: &Course) -> Result<(), Refusal> {
+fn change_head<R: Wait, N: Named + Send + 'static>(
+    rt: &R,
+    store: &Tested<N>,
+    course: &Course,
+) -> Result<(), Refusal> {
     let chain = chain();
     store.stop(rt, chain, NodeId::new(1))?;
     store.remove(rt, chain, NodeId::new(1))?;
@@ -152,13 +173,14 @@ fn change_head<R: Wait>(rt: &R, store: &Tested, course: &Course) -> Result<(), R
 
 /// Changes the tail after a quarter of the calls, and the head after half of them. Returns the
 /// number of puts that waited when the tail changed.
-fn change_members<R>(
+fn change_members<R, N>(
     rt: R,
     host: HostRuntime,
-    store: &Tested,
+    store: &Tested<N>,
     course: &Course,
 ) -> Result<u64, Refusal>
 where
+    N: Named + Send + 'static,
     R: Threads + Wait + Copy + Send + 'static,
 {
     tick_until(&rt, host, store, &course.made, TOTAL / 4);
@@ -170,18 +192,19 @@ where
 }
 
 /// Starts a client on a thread of its own.
-fn start_asker<R>(
+fn start_asker<R, N>(
     rt: R,
     host: HostRuntime,
-    store: &Tested,
+    store: &Tested<N>,
     course: &Arc<Course>,
     id: u64,
-) -> Result<JoinHandle<Asker>, Refusal>
+) -> Result<JoinHandle<Asker<N>>, Refusal>
 where
+    N: Named + Send + 'static,
     R: Threads + Wait + Copy + Send + 'static,
 {
     let theirs = Arc::try_clone(course)?;
-    let asker = Asker::new(host.alloc(), store, id)?;
+    let asker = Asker::new(&rt, host.alloc(), store, id)?;
     match thread::spawn(&rt, move || ask_on(&rt, host, asker, &theirs)) {
         Ok(caller) => Ok(caller),
         Err(_) => Err(Refusal::Memory),
@@ -190,14 +213,15 @@ where
 
 /// Starts all clients and changes the members. Returns the number of puts that waited when the tail
 /// changed.
-fn ask_and_change<R>(
+fn ask_and_change<R, N>(
     rt: R,
     host: HostRuntime,
-    store: &Tested,
+    store: &Tested<N>,
     course: &Arc<Course>,
-    callers: &mut Vec<JoinHandle<Asker>>,
+    callers: &mut Vec<JoinHandle<Asker<N>>>,
 ) -> Result<u64, Refusal>
 where
+    N: Named + Send + 'static,
     R: Threads + Wait + Copy + Send + 'static,
 {
     for id in 1..=CLIENTS {
@@ -207,9 +231,9 @@ where
 }
 
 /// Waits for the clients, and takes the receipts of all their calls.
-fn join_all<R: Threads>(
+fn join_all<R: Threads, N: Named>(
     rt: &R,
-    callers: Vec<JoinHandle<Asker>>,
+    callers: Vec<JoinHandle<Asker<N>>>,
     receipts: &mut Vec<CallReceipt>,
 ) -> Result<(), AllocError> {
     for caller in callers {
@@ -240,14 +264,15 @@ fn were_answered(course: &Course) -> bool {
 
 /// Runs all clients while members change, and collects the receipts of their calls. Returns the
 /// number of puts that waited when the tail changed.
-fn ask_all<R>(
+fn ask_all<R, N>(
     rt: R,
     host: HostRuntime,
-    store: &Tested,
+    store: &Tested<N>,
     course: &Arc<Course>,
     receipts: &mut Vec<CallReceipt>,
 ) -> Result<u64, Refusal>
 where
+    N: Named + Send + 'static,
     R: Threads + Wait + Copy + Send + 'static,
 {
     let mut callers = Vec::new(host.alloc());
@@ -265,15 +290,16 @@ where
 
 /// Changes members while clients send requests. Every call must finish, few may be refused, and the
 /// audit must find a run with their receipts.
-fn go_on<R>(
+fn go_on<R, N>(
     rt: R,
     host: HostRuntime,
-    store: &Tested,
+    store: &Tested<N>,
     signs: &Signs,
     course: &Arc<Course>,
     receipts: &mut Vec<CallReceipt>,
 ) -> Result<(), Fault>
 where
+    N: Named + Send + 'static,
     R: Threads + Wait + Copy + Send + 'static,
 {
     let waiting = ask_all(rt, host, store, course, receipts)?;
@@ -286,8 +312,14 @@ where
 }
 
 /// Stops, removes and adds nodes, and loses messages, while clients keep sending requests.
-pub fn changes<R>(rt: R, host: HostRuntime, store: &Tested, signs: &Signs) -> Result<(), Fault>
+pub fn changes<R, N>(
+    rt: R,
+    host: HostRuntime,
+    store: &Tested<N>,
+    signs: &Signs,
+) -> Result<(), Fault>
 where
+    N: Named + Send + 'static,
     R: Threads + Wait + Copy + Send + 'static,
 {
     let course = Arc::new(host.alloc(), Course::new())?;

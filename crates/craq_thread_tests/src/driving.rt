@@ -9,6 +9,7 @@ use crate::trial::Trial;
 use crate::waits::{LIMIT, rest};
 use craq_audit::Audit;
 use craq_names::{NodeId, Refusal};
+use craq_workers::Named;
 use std::sync::atomic::{AtomicU64, Ordering};
 use std::sync::{Arc, Wait};
 use std::thread;
@@ -34,16 +35,16 @@ const MOST_JOINS: u32 = 10_000;
 const MANY: u64 = 1_000_000;
 
 /// A running store and its course.
-pub struct Ground {
+pub struct Ground<N: Named> {
     pub host: HostRuntime,
-    pub store: Tested,
+    pub store: Tested<N>,
     pub course: Arc<Course>,
 }
 
 /// The threads of clients.
 pub type Callers = Vec<JoinHandle<()>>;
 
-impl Ground {
+impl<N: Named + Send + 'static> Ground<N> {
     /// Starts a client of this id with `numbers` request numbers.
     pub fn start_caller<R>(
         &self,
@@ -58,7 +59,7 @@ impl Ground {
         callers.reserve(1)?;
         let host = self.host;
         let course = Arc::try_clone(&self.course)?;
-        let caller = Caller::new(host.alloc(), &self.store, id)?;
+        let caller = Caller::new(&rt, host.alloc(), &self.store, id)?;
         match thread::spawn(&rt, move || caller.ask_on(&rt, host, &course, numbers)) {
             Ok(spawned) => {
                 self.course.begun.fetch_add(1, Ordering::SeqCst);

@@ -4,6 +4,7 @@ use crate::asks::chain;
 use crate::driving::{Callers, Ground};
 use crate::fault::{Fact, Fault, expect};
 use craq_names::NodeId;
+use craq_workers::Named;
 use std::sync::Wait;
 use std::sync::atomic::Ordering;
 use std::thread::Threads;
@@ -19,7 +20,7 @@ const MOST_TURNS: u64 = 300;
 /// one more of these in transit.
 const ONE_OF_EACH: u64 = 5;
 
-impl Ground {
+impl<N: Named + Send + 'static> Ground<N> {
     /// Holds the head, or the tail after which a node joins then, while the store ticks.
     ///
     /// Once the node is released a put is answered: after all pending work of the node, one item of

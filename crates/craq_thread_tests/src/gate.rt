@@ -1,11 +1,13 @@
 //! Defines the fault-injection hook of a store under test: that of a case, that of a trial, or an
 //! open one; and starts a store with one. Called by `cases`, `trials` and `server`.
+ghost use Rattle.std.specs.Prelude.{◌≡◌};
+
 use crate::asks::plan;
 use crate::case_gate::CaseGate;
 use crate::trial_gate::TrialGate;
 use craq_compact_history::ListCore;
 use craq_names::{NodeName, Refusal};
-use craq_workers::{Gate, OpenGate, Store, Work};
+use craq_workers::{At, Gate, Named, OpenGate, OpenedHistory, Store, Work};
 use std::alloc::Global;
 use std::sync::Wait;
 use std::thread::Threads;
@@ -18,21 +20,26 @@ pub enum TestGate {
     Open(OpenGate),
 }
 
-/// The stores under test: their nodes keep compacting histories, as those of a server do.
-pub type Tested = Store<ListCore, TestGate>;
+/// The stores under test: their nodes keep compacting histories, as those of a server do. `N` names
+/// the history of the store.
+pub type Tested<N> = Store<At<ListCore, N>, TestGate>;
 
-/// Starts a store of the tests' chain configuration with this hook, with or without journals.
-pub fn start_store<R>(
+/// Starts a store of the tests' chain configuration with this history and hook, with or without
+/// journals.
+pub fn start_store<R, N>(
     rt: R,
     alloc: Global,
+    opened: OpenedHistory,
     gate: TestGate,
     journals: bool,
-) -> Result<Tested, Refusal>
+) -> Result<Tested<N>, Refusal>
 where
+    N: Named + Send + 'static,
     R: Threads + Wait + Copy + Send + 'static,
+    requires { opened ≡ N.history }
 {
     let plan = plan(alloc)?;
-    let started = Store::start(rt, alloc, &plan, gate, journals);
+    let started = Store::start(rt, alloc, opened, &plan, gate, journals);
     drop(plan);
     started
 }

@@ -6,6 +6,7 @@ use crate::driving::{CLIENTS, Callers, Ground};
 use crate::fault::{Fact, Fault, expect};
 use crate::waits::LIMIT;
 use craq_names::NodeId;
+use craq_workers::Named;
 use std::sync::Wait;
 use std::sync::atomic::Ordering;
 use std::thread::Threads;
@@ -14,7 +15,7 @@ use std::thread::Threads;
 /// again.
 const CALLS: u64 = 3;
 
-impl Ground {
+impl<N: Named + Send + 'static> Ground<N> {
     /// Starts a put, and waits until node 2 is held.
     fn put_and_hold<R>(&self, rt: R, callers: &mut Callers) -> Result<(), Fault>
     where
@@ -102,7 +103,7 @@ impl Ground {
 
     /// Expects that each of these nodes answers.
     fn glance<R: Wait>(&self, rt: &R, nodes: &[u32]) -> Result<(), Fault> {
-        let mut caller = Caller::new(self.host.alloc(), &self.store, CLIENTS.wrapping_add(1))?;
+        let mut caller = Caller::new(rt, self.host.alloc(), &self.store, CLIENTS.wrapping_add(1))?;
         let mut glanced = Ok(());
         for node in nodes {
             if glanced.is_ok() {

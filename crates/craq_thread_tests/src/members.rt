@@ -5,7 +5,7 @@ use crate::form::Form;
 use crate::gate::Tested;
 use crate::waits::comes_to;
 use craq_names::{NodeId, Refusal};
-use craq_workers::ChainStatus;
+use craq_workers::{ChainStatus, Named};
 use std::sync::Wait;
 use std::thread::Threads;
 
@@ -43,14 +43,15 @@ fn has_members(statuses: &[ChainStatus], epoch: u64) -> bool {
 }
 
 /// Expects that the chain has this epoch and three members.
-fn expect_members<R: Wait>(rt: &R, store: &Tested, epoch: u64) -> Result<(), Fault> {
+fn expect_members<R: Wait, N: Named>(rt: &R, store: &Tested<N>, epoch: u64) -> Result<(), Fault> {
     let statuses = store.status(rt)?;
     expect(has_members(statuses.as_slice(), epoch), Fact::HasItsMembers)
 }
 
 /// Expects that a running member is not removed, and that a used id does not join.
-fn refuse<R>(rt: R, store: &Tested) -> Result<(), Fault>
+fn refuse<R, N>(rt: R, store: &Tested<N>) -> Result<(), Fault>
 where
+    N: Named + Send + 'static,
     R: Threads + Wait + Copy + Send + 'static,
 {
     let removed = store.remove(&rt, chain(), NodeId::new(1));
@@ -60,8 +61,9 @@ where
 }
 
 /// Removes the head, and adds another node.
-fn change<R>(rt: R, host: HostRuntime, store: &Tested, form: Form) -> Result<(), Fault>
+fn change<R, N>(rt: R, host: HostRuntime, store: &Tested<N>, form: Form) -> Result<(), Fault>
 where
+    N: Named + Send + 'static,
     R: Threads + Wait + Copy + Send + 'static,
 {
     store.stop(&rt, chain(), NodeId::new(1))?;
@@ -73,8 +75,9 @@ where
 
 /// Expects that refused moves leave members and threads unchanged, that the threads of a removed
 /// node end, and that those of a joining node start.
-pub fn members<R>(rt: R, host: HostRuntime, store: &Tested, form: Form) -> Result<(), Fault>
+pub fn members<R, N>(rt: R, host: HostRuntime, store: &Tested<N>, form: Form) -> Result<(), Fault>
 where
+    N: Named + Send + 'static,
     R: Threads + Wait + Copy + Send + 'static,
 {
     refuse(rt, store)?;

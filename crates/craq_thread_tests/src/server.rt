@@ -1,6 +1,8 @@
 //! The store, its server and its ticks, each on a thread, beside the clients; in the end its audit.
 //! It is served in each manner: by `accept`, and by `accept_with` and a few threads; called by
 //! `main`.
+ghost use Rattle.std.specs.Prelude.{◌≡◌};
+
 use crate::asks::chain;
 use crate::client::ask_all;
 use crate::gate::{TestGate, Tested, start_store};
@@ -8,8 +10,9 @@ use craq_audit::Audit;
 use craq_names::Refusal;
 use craq_seat::CallReceipt;
 use craq_server::{Connections, EventLoops, Log, ServeReport, Serving, accept, accept_with};
-use craq_workers::OpenGate;
+use craq_workers::{Named, OpenGate, OpenedHistory, open_history};
 use std::alloc::{AllocError, Global};
+use std::marker::Brand;
 use std::net::{Net, SocketAddr, TcpListener, TcpStream};
 use std::sync::Wait;
 use std::sync::atomic::{AtomicBool, Ordering};
@@ -58,7 +61,7 @@ impl Manner {
 }
 
 /// Ticks a store until that is over.
-fn tick<R: Clock + Wait>(rt: &R, store: &Tested, over: &AtomicBool) {
+fn tick<R: Clock + Wait, N: Named>(rt: &R, store: &Tested<N>, over: &AtomicBool) {
     for _ in rt.forever() {
         if over.load(Ordering::SeqCst) {
             break;
@@ -79,12 +82,13 @@ fn joined(alloc: Global, parts: Vec<Vec<CallReceipt>>) -> Result<Vec<CallReceipt
 
 /// Serves the connections of a listener by a few threads. Returns the receipts of all calls, in
 /// order. Refused as `accept` is.
-fn serve_together<R>(
+fn serve_together<R, N>(
     rt: R,
-    store: &Tested,
+    store: &Tested<N>,
     listener: &TcpListener,
 ) -> Result<Vec<CallReceipt>, Refusal>
 where
+    N: Named + Send + 'static,
     R: AllocGlobal + Eprint + Clock + Threads + Wait + Copy + Drop + Send + Sync + 'static,
     R: Net<Listener = TcpListener, Stream = TcpStream>,
 {
@@ -115,13 +119,14 @@ where
 
 /// Serves the connections of a listener in this manner. Returns the receipts of all calls, in
 /// order.
-fn serve_all<R>(
+fn serve_all<R, N>(
     rt: R,
-    store: &Tested,
+    store: &Tested<N>,
     manner: Manner,
     listener: &TcpListener,
 ) -> Result<Vec<CallReceipt>, Refusal>
 where
+    N: Named + Send + 'static,
     R: AllocGlobal + Eprint + Clock + Threads + Wait + Copy + Drop + Send + Sync + 'static,
     R: Net<Listener = TcpListener, Stream = TcpStream>,
 {
@@ -147,14 +152,15 @@ fn served_and_asked(
 
 /// Has the clients ask at the address of the listener, while the store is ticked and served, each
 /// on a thread of its own. Returns the receipts of all calls, in order.
-fn ask_served<R>(
+fn ask_served<R, N>(
     rt: R,
-    store: &Tested,
+    store: &Tested<N>,
     manner: Manner,
     listener: &TcpListener,
     address: SocketAddr,
 ) -> Result<Vec<CallReceipt>, Refusal>
 where
+    N: Named + Send + 'static,
     R: AllocGlobal + Print + Eprint + Clock + Threads + Wait + Copy + Drop + Send + Sync + 'static,
     R: Net<Listener = TcpListener, Stream = TcpStream>,
 {
@@ -189,8 +195,9 @@ fn print_found<R: Print>(rt: &R, audit: &Audit, count: usize) -> Result<(), Refu
 }
 
 /// Prints what the audit of the chain finds with the receipts of all connections.
-fn print_audit<R>(rt: &R, store: &Tested, receipts: &[CallReceipt]) -> Result<(), Refusal>
+fn print_audit<R, N>(rt: &R, store: &Tested<N>, receipts: &[CallReceipt]) -> Result<(), Refusal>
 where
+    N: Named + Send + 'static,
     R: AllocGlobal + Print + Wait,
 {
     let audit = store.audit(rt, chain(), receipts)?;
@@ -198,8 +205,9 @@ where
 }
 
 /// Serves the clients at any free port of the loopback, and audits the store.
-fn serve_store<R>(rt: R, store: &Tested, manner: Manner) -> Result<(), Refusal>
+fn serve_store<R, N>(rt: R, store: &Tested<N>, manner: Manner) -> Result<(), Refusal>
 where
+    N: Named + Send + 'static,
     R: AllocGlobal + Print + Eprint + Clock + Threads + Wait + Copy + Drop + Send + Sync + 'static,
     R: Net<Listener = TcpListener, Stream = TcpStream>,
 {
@@ -213,15 +221,27 @@ where
     print_audit(&rt, store, receipts.as_slice())
 }
 
-/// Starts a store, serves the clients in this manner, audits it and closes it.
+/// Starts a store with this history, serves the clients in this manner, audits it and closes it.
+fn serve_named<N, R>(rt: R, manner: Manner, opened: OpenedHistory) -> Result<(), Refusal>
+where
+    N: Named + Send + 'static,
+    R: AllocGlobal + Print + Eprint + Clock + Threads + Wait + Copy + Drop + Send + Sync + 'static,
+    R: Net<Listener = TcpListener, Stream = TcpStream>,
+    requires { opened ≡ N.history }
+{
+    let gate = TestGate::Open(manner.gate());
+    let store: Tested<N> = start_store(rt, rt.alloc(), opened, gate, true)?;
+    let served = serve_store(rt, &store, manner);
+    store.close(&rt);
+    served
+}
+
+/// Serves the clients in this manner from a store of its own.
 pub fn serve_clients<R>(rt: R, manner: Manner) -> Result<(), Refusal>
 where
     R: AllocGlobal + Print + Eprint + Clock + Threads + Wait + Copy + Drop + Send + Sync + 'static,
     R: Net<Listener = TcpListener, Stream = TcpStream>,
 {
-    let gate = TestGate::Open(manner.gate());
-    let store = start_store(rt, rt.alloc(), gate, true)?;
-    let served = serve_store(rt, &store, manner);
-    store.close(&rt);
-    served
+    let opened = open_history(rt.alloc())?;
+    serve_named::<Brand, R>(rt, manner, opened)
 }

@@ -1,6 +1,6 @@
 //! Starts a store with a script's members, sends it the script's requests, and adds a node unless
 //! the chain is full; called by `ways`.
-ghost use Rattle.std.specs.Prelude.{IfOk};
+ghost use Rattle.std.specs.Prelude.{◌≡◌, IfOk};
 ghost use Rattle.craq_place.specs.Plan.{IsPlan};
 
 use super::rows::{MOST_NODES, Row, chain};
@@ -10,8 +10,9 @@ use craq_names::{Copied, NodeId, NodeName, Pass, Refusal};
 use craq_node::Core;
 use craq_place::Plan;
 use craq_runs::Move;
-use craq_workers::{Client, OpenGate, Store};
+use craq_workers::{At, Client, Named, OpenGate, OpenedHistory, Store, open_history};
 use std::alloc::{AllocError, Global};
+use std::marker::Brand;
 use std::sync::Wait;
 use std::thread::Threads;
 use std::time::Duration;
@@ -71,46 +72,10 @@ pub fn plan(alloc: Global, row: &Row) -> Result<Plan, Refusal>
     }
 }
 
-/// Starts a store, run by one chain thread or by threads of each node. A start that fails leaves no
-/// thread.
-fn start<C, R>(
-    rt: R,
-    teller: Teller,
-    plan: &Plan,
-    chain_threads: bool,
-) -> Result<Store<C, OpenGate>, Refusal>
-where
-    C: Core + Send + 'static,
-    R: Threads + Wait + Copy + Send + 'static,
-    requires { IsPlan plan.now }
-{
-    let before = threads(teller.host);
-    for _ in 0..TRIES {
-        let gate = OpenGate {
-            in_place: false,
-            chain_threads,
-        };
-        teller.begin(Call::Start);
-        match Store::start(rt, teller.alloc, plan, gate, true) {
-            Ok(store) => {
-                let _ = teller.end(Call::Start, false);
-                return Ok(store);
-            }
-            Err(_) => {
-                let _ = teller.end(Call::Start, true);
-            }
-        }
-        if !comes_to(teller.host, before) {
-            return Err(Refusal::NotStopped);
-        }
-    }
-    Err(Refusal::Memory)
-}
-
 /// Returns the epoch of the store's chain, which identifies its membership.
 fn epoch<C, R>(rt: &R, store: &Store<C, OpenGate>) -> Result<u64, Refusal>
 where
-    C: Core,
+    C: Core + Named,
     R: Wait,
 {
     match store.status(rt)?.as_slice() {
@@ -129,7 +94,7 @@ fn join<C, R>(
     node: NodeId,
 ) -> Result<bool, Refusal>
 where
-    C: Core + Send + 'static,
+    C: Core + Named + Send + 'static,
     R: Threads + Wait + Copy + Send + 'static,
 {
     let before = threads(teller.host);
@@ -161,7 +126,7 @@ fn answer<C, R>(
     ask: &Ask,
 ) -> Result<Answer, Refusal>
 where
-    C: Core,
+    C: Core + Named,
     R: Wait,
 {
     let name = NodeName {
@@ -184,10 +149,10 @@ fn tell_when_ready<C, R>(
     ask: &Ask,
 ) -> Result<(), AllocError>
 where
-    C: Core,
+    C: Core + Named,
     R: Wait,
 {
-    let mut client = store.client(Pass::start())?;
+    let mut client = store.client(rt, Pass::start())?;
     for _ in 0..LIMIT {
         let reported = answer(rt, teller.alloc, &mut client, node, ask);
         let is_ready = !matches!(&reported, Err(Refusal::NotReady));
@@ -213,7 +178,7 @@ fn tell_reads<C, R>(
     node: NodeId,
 ) -> Result<(), AllocError>
 where
-    C: Core,
+    C: Core + Named,
     R: Wait,
 {
     for chosen in &row.moves {
@@ -230,7 +195,7 @@ where
 /// joins.
 fn tell<C, R>(rt: R, teller: Teller, row: &Row, store: &Store<C, OpenGate>) -> Result<(), Refusal>
 where
-    C: Core + Send + 'static,
+    C: Core + Named + Send + 'static,
     R: Threads + Wait + Copy + Send + 'static,
 {
     for chosen in &row.moves {
@@ -247,23 +212,68 @@ where
     Ok(())
 }
 
+/// Starts a store with this history and the row's members, and prints its replies while one more
+/// joins. The store is run by one chain thread, or by threads of each node. `None` if it does not
+/// start.
+fn play_named<C, N, R>(
+    rt: R,
+    teller: Teller,
+    row: &Row,
+    chain_threads: bool,
+    opened: OpenedHistory,
+) -> Result<Option<()>, Refusal>
+where
+    C: Core + Send + 'static,
+    N: Named + Send + 'static,
+    R: Threads + Wait + Copy + Send + 'static,
+    requires { opened ≡ N.history }
+{
+    let plan = plan(teller.alloc, row)?;
+    let gate = OpenGate {
+        in_place: false,
+        chain_threads,
+    };
+    teller.begin(Call::Start);
+    let started: Result<Store<At<C, N>, OpenGate>, Refusal> = Store::start(
+        rt,
+        teller.alloc,
+        opened,
+        &plan,
+        gate,
+        true,
+    );
+    let _ = teller.end(Call::Start, started.is_err());
+    match started {
+        Ok(store) => {
+            let reported = tell(rt, teller, row, &store);
+            store.close(&rt);
+            match reported {
+                Ok(()) => Ok(Some(())),
+                Err(refusal) => Err(refusal),
+            }
+        }
+        Err(_) => Ok(None),
+    }
+}
+
 /// Prints the replies of a store with the row's members while one more joins. The store is run by
-/// one chain thread, or by threads of each node. Fails if a thread is left at the end.
+/// one chain thread, or by threads of each node. Fails if a thread is left after a start that
+/// fails, or at the end.
 pub fn play<C, R>(rt: R, teller: Teller, row: &Row, chain_threads: bool) -> Result<(), Refusal>
 where
     C: Core + Send + 'static,
     R: Threads + Wait + Copy + Send + 'static,
 {
     let before = threads(teller.host);
-    let plan = plan(teller.alloc, row)?;
-    let started: Result<Store<C, OpenGate>, Refusal> = start(rt, teller, &plan, chain_threads);
-    drop(plan);
-    let store = started?;
-    let reported = tell(rt, teller, row, &store);
-    store.close(&rt);
-    if comes_to(teller.host, before) {
-        reported
-    } else {
-        Err(Refusal::NotStopped)
+    for _ in 0..TRIES {
+        let opened = open_history(teller.alloc)?;
+        let played = play_named::<C, Brand, R>(rt, teller, row, chain_threads, opened);
+        if !comes_to(teller.host, before) {
+            return Err(Refusal::NotStopped);
+        }
+        if played?.is_some() {
+            return Ok(());
+        }
     }
+    Err(Refusal::Memory)
 }

@@ -1,19 +1,24 @@
 """craqd --metrics: the pages, what they count, and clients of that listener that do harm. craq bench and craq watch, which need it."""
 import json
+import os
 import re
 import shutil
 import socket
 import subprocess
+import tempfile
 import threading
 import time
 
 from tools import plain_client as example
 from tools.end_to_end import running
+from tools.hostile.refused import Library
 from tools.sockets import free_port, read_to_end
 
 # Connections at once, the seconds that each has, and the bytes of a request's head.
 AT_ONCE, SECONDS, HEAD = 16, 5, 4096
 FLOOD, GARBAGE = 1_000, 300
+# Numbers of the asks for memory that are refused, each in a server of its own, and its puts.
+REFUSED, PUTS = range(1, 61), 12
 PROMETHEUS = "text/plain; version=0.0.4; charset=utf-8"
 PLAIN = "text/plain; charset=utf-8"
 NO_PAGE = "expected /metrics, /healthz or /status.json\n"
@@ -38,10 +43,11 @@ ROWS = [
 class Measured:
     """A craqd that serves its metrics, which takes control lines and ends once they end."""
 
-    def __init__(self, craqd, *options):
+    def __init__(self, craqd, *options, env=()):
         self.file, self.page = running.text_file(running.PLAN), free_port()
         words = [craqd, "--control", "--metrics", f"127.0.0.1:{self.page}", *running.OPTIONS, *options, self.file.name, "127.0.0.1:0"]
-        self.process = subprocess.Popen(words, stdin=subprocess.PIPE, stdout=subprocess.PIPE, stderr=subprocess.PIPE)
+        self.process = subprocess.Popen(words, stdin=subprocess.PIPE, stdout=subprocess.PIPE, stderr=subprocess.PIPE,
+                                        env={**os.environ, **dict(env)})
         found = re.fullmatch(rb"listening ([1-9][0-9]*)\n", self.process.stdout.readline())
         self.port = int(found[1]) if found else 0
         self.began = self.process.stderr.readline().decode()
@@ -115,7 +121,7 @@ def pages(checks, craqd):
         wanted = {"craqd_open_connections": 0, 'craqd_requests_total{kind="read"}': 2, "craqd_turned_away_total": 0,
                   'craqd_chain_epoch{chain="a"}': 1, 'craqd_chain_members{chain="a"}': 3, 'craqd_chain_members{chain="b"}': 2,
                   **{f'craqd_node_{name}{{chain="a",node="{node}"}}': value for node in (1, 2, 3)
-                     for name, value in (("ready", 1), ("running", 1), ("entries", 5), ("committed_entries", 5), ("waiting_requests", 0), ("objects", 5), ("bytes", 25))},
+                     for name, value in (("ready", 1), ("running", 1), ("entries", 5), ("committed_entries", 5), ("waiting_requests", 0), ("objects", 5), ("bytes", 25), ("lost_messages_total", 0))},
                   'craqd_node_objects{chain="b",node="4"}': 0}
         checks.same("what /metrics counts", {it: found.get(it) for it in wanted}, wanted)
         checks.that(found['craqd_requests_total{kind="update"}'] >= 5, f"/metrics counts updates: {found}")
@@ -125,7 +131,7 @@ def pages(checks, craqd):
         checks.same("/status.json: its chains", [(it["name"], it["epoch"], [node["node"] for node in it["nodes"]]) for it in told["chains"]],
                     [("a", 1, [1, 2, 3]), ("b", 1, [4, 5])])
         checks.same("/status.json: its first node", told["chains"][0]["nodes"][0],
-                    {"bytes": 25, "committed": 5, "length": 5, "node": 1, "objects": 5, "ready": True, "running": True, "waiting": 0})
+                    {"bytes": 25, "committed": 5, "length": 5, "lost": 0, "node": 1, "objects": 5, "ready": True, "running": True, "waiting": 0})
         checks.same("/status.json: its requests", told["requests"], {"reads": 2, "statuses": found['craqd_requests_total{kind="status"}'],
                                                                     "updates": found['craqd_requests_total{kind="update"}']})
         checks.same("/healthz", server.get("/healthz"), ("HTTP/1.1 200 OK", PLAIN, "ok\n"))
@@ -151,6 +157,12 @@ def refusals(checks, craqd):
             made.sendall(bytes.fromhex("00000026 0101 00000002 0000000000000000 0000000000000001 0000000000000001 01 0000 016b 000161"))
             made.recv(64)
         checks.same("refusals after one", server.samples()[number], 1)
+        for refused, frame in (15, "00000001 ff"), (16, "00100001"):
+            with socket.create_connection(("127.0.0.1", server.port), running.PATIENCE) as made:
+                made.sendall(bytes.fromhex(frame))
+                made.recv(64)
+            found = server.samples()[f'craqd_refusals_total{{number="{refused}"}}']
+            checks.same(f"refusals {refused} after the frame {frame}", found, 1)
         server.control("stop a/2")
         found = server.samples()
         checks.same("a stopped node", (found['craqd_node_running{chain="a",node="2"}'], found['craqd_node_ready{chain="a",node="2"}']), (0, 1))
@@ -304,10 +316,29 @@ def at_once(checks, craqd):
         server.finish(checks, "at once")
 
 
+def lost_under(craqd, env):
+    """Puts objects into a server, and returns how many lost messages its nodes count."""
+    with Measured(craqd, env=env) as server:
+        with example.Client(server.address) as client:
+            for it in range(PUTS):
+                client.put(f"k{it}", b"v" * 40)
+        return sum(it for name, it in server.samples().items() if name.startswith("craqd_node_lost_messages_total{"))
+
+
+def losses(checks, craqd):
+    """Servers of which each refuses one ask for memory after it listens: an ask to encode, queue or
+    decode a message loses that message, and no other one does."""
+    with tempfile.TemporaryDirectory(prefix="lost-") as folder:
+        library = Library(folder)
+        lost = [lost_under(craqd, library.refusing(memory=it, after="listening")) for it in REFUSED]
+    checks.same("lost messages where one ask for memory is refused", {*lost}, {0, 1})
+
+
 def tried(checks, craqd, craq):
     checks.part("the pages of metrics", pages, craqd)
     checks.part("refusals and nodes on the pages", refusals, craqd)
     checks.part("pages beside a load", at_once, craqd)
+    checks.part("lost messages on the pages", losses, craqd)
     checks.part("hostile clients of the metrics", hostile, craqd)
     checks.part("addresses of metrics", taken, craqd)
     checks.part("craq bench with options", bench, craqd, craq)

@@ -185,10 +185,12 @@ fn words_arg<'a>(alloc: Global) -> Arg<'a> {
 /// Makes the command `craq [OPTION ..]` with the options of verbs for people, help and version.
 fn open_options<'a>(alloc: Global) -> Result<Command<'a>, AllocError> {
     let mut command = named_command(alloc);
-    for (name, value, help) in VALUED {
+    for option in VALUED.iter() {
+        let (name, value, help) = *option;
         command = command.arg(option_arg(alloc, name, value, help))?;
     }
-    for (name, help) in FLAGS {
+    for option in FLAGS.iter() {
+        let (name, help) = *option;
         command = command.arg(flag_arg(alloc, name, help))?;
     }
     Ok(command)
@@ -200,7 +202,8 @@ const METRICS: &str = "Of watch: where the server serves its metrics (craqd --me
 /// Makes the command with the options of tools too.
 fn tool_options<'a>(alloc: Global) -> Result<Command<'a>, AllocError> {
     let mut command = open_options(alloc)?;
-    for (name, value, help) in LOAD {
+    for option in LOAD.iter() {
+        let (name, value, help) = *option;
         command = command.arg(option_arg(alloc, name, value, help))?;
     }
     command.arg(option_arg(alloc, "metrics", "ADDRESS", METRICS))
@@ -218,24 +221,25 @@ fn open_command<'a>(alloc: Global) -> Result<Command<'a>, AllocError> {
 
 /// Makes the command whose words are all behind its options: `craq [OPTION ..] [COMMAND ..]`.
 fn first_command<'a>(alloc: Global) -> Result<Command<'a>, AllocError> {
+    let command = tool_options(alloc)?;
     let words = words_arg(alloc)
         .trailing_var_arg(true)
         .allow_hyphen_values(true);
-    tool_options(alloc)?.arg(words)
+    command.arg(words)
 }
 
 /// Makes the command with `--connect ADDRESS --node N [--pass P]`, help and version.
 fn command_with_options<'a>(alloc: Global) -> Result<Command<'a>, AllocError> {
     let connect = option_arg(alloc, "connect", "ADDRESS", "Where the server listens");
+    let command = named_command(alloc).arg(connect.required(true))?;
     let node = option_arg(alloc, "node", "N", "The node that is asked");
+    let command = command.arg(node.required(true))?;
     let pass = option_arg(
         alloc,
         "pass",
         "P",
         "The largest pass that was printed so far",
     );
-    let command = named_command(alloc).arg(connect.required(true))?;
-    let command = command.arg(node.required(true))?;
     command.arg(pass.default_value("0"))
 }
 
@@ -304,8 +308,12 @@ fn form_of(matches: &ArgMatches<'_>) -> LineForm {
 /// Returns the form of these words.
 fn form_of_words(alloc: Global, words: &[&str]) -> Result<LineForm, CommandFault> {
     let mut command = first_command(alloc)?;
-    let matches = command.try_get_matches_from_mut(words)?;
-    Ok(form_of(&matches))
+    let found = command.try_get_matches_from_mut(words);
+    drop(command);
+    let matches = found?;
+    let form = form_of(&matches);
+    drop(matches);
+    Ok(form)
 }
 
 /// Returns the options of a verb for people.
@@ -359,21 +367,23 @@ fn copied_words<'a>(alloc: Global, words: Option<&[&'a str]>) -> Result<Vec<&'a 
     }
 }
 
-/// Parses a command line with the words of a command of the specification.
-fn read_command<'a>(alloc: Global, words: &'a [&'a str]) -> Result<CallLine<'a>, CommandFault> {
-    let mut command = whole_command(alloc)?;
-    let matches = command.try_get_matches_from_mut(words)?;
-    let (Some(address), Some((node, pass))) = (matches.get_str("connect"), numbers_in(&matches))
+/// Returns the line of a command of the specification.
+fn command_line<'a>(
+    alloc: Global,
+    command: &mut Command<'_>,
+    matches: &ArgMatches<'a>,
+) -> Result<CallLine<'a>, CommandFault> {
+    let (Some(address), Some((node, pass))) = (matches.get_str("connect"), numbers_in(matches))
     else {
         let reported = "N and P are numbers of 32 and of 64 bits in decimal digits";
-        return Err(wrong_words(&mut command, reported)?);
+        return Err(wrong_words(command, reported)?);
     };
     Ok(CallLine {
         address: Some(address),
         node: Some(node),
         pass,
         metrics: None,
-        task: task_in(alloc, &mut command, node, matches.get_strs("COMMAND"))?,
+        task: task_in(alloc, command, node, matches.get_strs("COMMAND"))?,
     })
 }
 
@@ -399,14 +409,17 @@ fn task_with_options<'a>(
     task: Task<'a>,
 ) -> Result<Task<'a>, CommandFault> {
     if let Some(reported) = misplaced(matches, &task) {
+        drop(task);
         return Err(wrong_words(command, reported)?);
     }
-    match task {
-        Task::Bench(load) => match load_in(matches, load) {
-            Ok(load) => Ok(Task::Bench(load)),
-            Err(bad) => Err(option_fault(command, bad)),
-        },
-        task => Ok(task),
+    let Task::Bench(load) = &task else {
+        return Ok(task);
+    };
+    let load = *load;
+    drop(task);
+    match load_in(matches, load) {
+        Ok(load) => Ok(Task::Bench(load)),
+        Err(bad) => Err(option_fault(command, bad)),
     }
 }
 
@@ -415,9 +428,11 @@ fn tool_line<'a>(
     alloc: Global,
     command: &mut Command<'_>,
     matches: &ArgMatches<'a>,
-    place: (Option<NodeId>, Pass),
 ) -> Result<CallLine<'a>, CommandFault> {
-    let (node, pass) = place;
+    let (node, pass) = match place_of(matches) {
+        Ok(place) => place,
+        Err(bad) => return Err(option_fault(command, bad)),
+    };
     let task = task_in(alloc, command, NodeId::new(0), matches.get_strs("COMMAND"))?;
     Ok(CallLine {
         address: matches.get_str("connect"),
@@ -426,16 +441,6 @@ fn tool_line<'a>(
         metrics: matches.get_str("metrics"),
         task: task_with_options(command, matches, task)?,
     })
-}
-
-/// Parses a command line with the words of a tool.
-fn read_tool<'a>(alloc: Global, words: &'a [&'a str]) -> Result<CallLine<'a>, CommandFault> {
-    let mut command = tool_command(alloc)?;
-    let matches = command.try_get_matches_from_mut(words)?;
-    match place_of(&matches) {
-        Ok(place) => tool_line(alloc, &mut command, &matches, place),
-        Err(bad) => Err(option_fault(&mut command, bad)),
-    }
 }
 
 /// Returns the line of a verb for people.
@@ -454,6 +459,47 @@ fn verb_line<'a>(alloc: Global, matches: &ArgMatches<'a>) -> Result<CallLine<'a>
     })
 }
 
+/// Makes the command of a line of this form.
+fn command_of<'a>(alloc: Global, form: LineForm) -> Result<Command<'a>, AllocError> {
+    match form {
+        LineForm::Command => whole_command(alloc),
+        LineForm::Verb => open_command(alloc),
+        LineForm::Tool => tool_command(alloc),
+    }
+}
+
+/// Returns the line of this form that these words match.
+fn matched<'a>(
+    alloc: Global,
+    form: LineForm,
+    command: &mut Command<'a>,
+    words: &'a [&'a str],
+) -> Result<CallLine<'a>, CommandFault> {
+    let matches = command.try_get_matches_from_mut(words)?;
+    let line = match form {
+        LineForm::Command => command_line(alloc, command, &matches),
+        LineForm::Verb => match verb_line(alloc, &matches) {
+            Ok(line) => Ok(line),
+            Err(bad) => Err(option_fault(command, bad)),
+        },
+        LineForm::Tool => tool_line(alloc, command, &matches),
+    };
+    drop(matches);
+    line
+}
+
+/// Parses a command line of this form.
+fn read_as<'a>(
+    alloc: Global,
+    form: LineForm,
+    words: &'a [&'a str],
+) -> Result<CallLine<'a>, CommandFault> {
+    let mut command = command_of(alloc, form)?;
+    let line = matched(alloc, form, &mut command, words);
+    drop(command);
+    line
+}
+
 impl<'a> CallLine<'a> {
     /// Parses a command line with the words of a verb for people, the program's own name first. The
     /// words of the verb are not checked yet: `verb_of` parses them.
@@ -461,12 +507,7 @@ impl<'a> CallLine<'a> {
     /// `Words` where clap finds a fault in the options, where the value of one is outside its
     /// bounds, or where the words ask for help or the version; `Memory` when out of memory.
     pub fn read_verb(alloc: Global, words: &'a [&'a str]) -> Result<Self, CommandFault> {
-        let mut command = open_command(alloc)?;
-        let matches = command.try_get_matches_from_mut(words)?;
-        match verb_line(alloc, &matches) {
-            Ok(line) => Ok(line),
-            Err(bad) => Err(option_fault(&mut command, bad)),
-        }
+        read_as(alloc, LineForm::Verb, words)
     }
 
     /// Parses a command line, the program's own name first. Numbers are encoded as in scripts.
@@ -475,10 +516,7 @@ impl<'a> CallLine<'a> {
     /// version; `Command` where the words of the command fit no script line; `Memory` where a
     /// growth was refused.
     pub fn read(alloc: Global, words: &'a [&'a str]) -> Result<Self, CommandFault> {
-        match form_of_words(alloc, words)? {
-            LineForm::Command => read_command(alloc, words),
-            LineForm::Verb => CallLine::read_verb(alloc, words),
-            LineForm::Tool => read_tool(alloc, words),
-        }
+        let form = form_of_words(alloc, words)?;
+        read_as(alloc, form, words)
     }
 }

@@ -208,6 +208,19 @@ fn line_of<'a>(matches: &ArgMatches<'a>) -> Result<Line<'a>, &'static str>
     })
 }
 
+/// Returns the command line that these words are, or clap's error about them.
+fn matched<'a>(command: &mut Command<'a>, words: &'a [&'a str]) -> Result<Line<'a>, Error>
+    ensures { IfOk result IsServable }
+{
+    let matches = command.try_get_matches_from_mut(words)?;
+    let found = line_of(&matches);
+    drop(matches);
+    match found {
+        Ok(line) => Ok(line),
+        Err(reported) => Err(command.error(ErrorKind::ValueValidation, reported)?),
+    }
+}
+
 impl<'a> Line<'a> {
     /// Reads a command line, the program's own name first. Numbers are encoded as in scripts; an
     /// option that is not given has 0 or false.
@@ -219,10 +232,8 @@ impl<'a> Line<'a> {
         ensures { IfOk result IsServable }
     {
         let mut command = whole_command(alloc)?;
-        let matches = command.try_get_matches_from_mut(words)?;
-        match line_of(&matches) {
-            Ok(line) => Ok(line),
-            Err(reported) => Err(command.error(ErrorKind::ValueValidation, reported)?),
-        }
+        let line = matched(&mut command, words);
+        drop(command);
+        line
     }
 }

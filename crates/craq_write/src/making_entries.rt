@@ -64,6 +64,7 @@ pub(crate) fn check<H: History>(history: &H, command: Command) -> Option<Checked
         Command::Put { object, value } => check_put(history, object, value),
         command => {
             if command.names_used_up(&Newest(history)) {
+                drop(command);
                 return None;
             }
             Some(Checked::Other(command))
@@ -105,13 +106,20 @@ pub(crate) fn outcome<H: History>(
 {
     match command {
         Checked::Put(write) => {
-            let reply = Reply::Written(write.version);
-            Ok((only(alloc, write)?, reply))
+            let version = write.version;
+            Ok((only(alloc, write)?, Reply::Written(version)))
         }
         Checked::Other(command) => {
-            let (writes, reply) = evaluate(alloc, &Newest(history), &command)?;
-            let writes = versioned(alloc, history, writes.into_vec())?;
-            Ok((Items::of(writes), reply))
+            let evaluated = evaluate(alloc, &Newest(history), &command);
+            drop(command);
+            let (writes, reply) = evaluated?;
+            match versioned(alloc, history, writes.into_vec()) {
+                Ok(writes) => Ok((Items::of(writes), reply)),
+                Err(error) => {
+                    drop(reply);
+                    Err(error)
+                }
+            }
         }
     }
 }

@@ -228,12 +228,14 @@ fn compute_new<H: History>(
 {
     let length = node.history.len();
     if length == u64::MAX {
+        drop(update);
         return Err(Refusal::Exhausted);
     }
     let Some(command) = check(&node.history, update.command) else {
         return Err(Refusal::Exhausted);
     };
     if !has_place(node, length + 1, length + 1) {
+        drop(command);
         return Err(Refusal::PendingFull);
     }
     let entry = entry_made(alloc, node, update.client, update.number, command)?;
@@ -260,9 +262,16 @@ pub fn compute_update<H: History>(
     requires { node.now.last_ticket < 2 ^ 64 - 1 }
     ensures { Computes (plain_of H.past node.now) result (update_transition (plain_of H.past node.now) update (said (newest (plain_of H.past node.now)) update.client update.number)) }
 {
-    match node.history.said(update.client, update.number) {
+    let client = update.client;
+    match node.history.said(client, update.number) {
         RequestStatus::New => compute_new(alloc, node, update),
-        RequestStatus::Kept(reply) => asked_before(alloc, node, update.client, reply),
-        RequestStatus::Stale(last) => asked_before(alloc, node, update.client, &Reply::Stale(last)),
+        RequestStatus::Kept(reply) => {
+            drop(update);
+            asked_before(alloc, node, client, reply)
+        }
+        RequestStatus::Stale(last) => {
+            drop(update);
+            asked_before(alloc, node, client, &Reply::Stale(last))
+        }
     }
 }

@@ -28,9 +28,9 @@ use std::alloc::{AllocError, Global};
 use std::marker::Model;
 
 /// The storage of a compacted past: the state after its first entries, and the entries after them.
-/// Objects are found by key and kept replies by client, in logarithmic time. An object's versions
-/// say which of the entries up to some position write it; the entries after that position are
-/// scanned.
+/// Objects are found by key in constant time on average, kept replies by client in logarithmic
+/// time. An object's versions say which of the entries up to some position write it; the entries
+/// after that position are scanned.
 #[derive(Drop)]
 pub struct HeldPast {
     counted: CountedTable,

@@ -69,9 +69,9 @@ pub fn objects_copied(
     ensures { IfOk result (λ objects. objects ≡ objects_of table.now) }
 {
     let mut objects = Vec::new(alloc);
-    for (key, list) in table.iter() {
+    for (key, list) in table.iter()? {
         if let Some((version, value)) = settled_of(list) {
-            objects.push((key.copied(alloc)?, (version, value.copied(alloc)?)))?;
+            objects.push((key, (version, value.copied(alloc)?)))?;
         }
     }
     Ok(Items::of(objects))

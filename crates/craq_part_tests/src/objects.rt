@@ -202,7 +202,7 @@ where
 }
 
 fn print_keys<R: Print>(rt: &R, table: &ObjectTable<Value>) -> io::Result<()> {
-    for key in table.keys() {
+    for (key, _) in table.iter()? {
         println!(rt; "{key:?}")?;
     }
     Ok(())
@@ -210,7 +210,7 @@ fn print_keys<R: Print>(rt: &R, table: &ObjectTable<Value>) -> io::Result<()> {
 
 /// Prints the versions of each key of a table.
 fn print_objects<R: Print>(rt: &R, table: &ObjectTable<Value>) -> io::Result<()> {
-    for (_, list) in table.iter() {
+    for (_, list) in table.iter()? {
         print_ends(rt, list)?;
     }
     Ok(())

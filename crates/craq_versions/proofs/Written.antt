@@ -3,7 +3,7 @@ use Rattle.std.specs.List.{AllByRecursion}
 use Rattle.std.proofs.Common.{map, zero, suc, take, get_or, add-one, ◌≡◌, ℕ, ◌+◌, ◌<◌, ◌≤◌, ◌≢◌, ◌⊎◌, inl, inr, ◌++◌, max, Bool, true, false, cond, List, [], ◌∷◌, Option, Some, None, refl, sym, ◌∙◌, ap, subst, arith}
 use Rattle.std.specs.Prelude.{unwrap_or, is_some, IsSome, if◌then◌else◌}
 use Rattle.std.specs.Option.{option_and_then}
-use Rattle.std.specs.Ordering.{is_eq}
+use Rattle.std.specs.Ordering.{is_eq, eq_by_cmp, ordering_reverse}
 use Rattle.std.specs.declared.cmp.Ordering.{Ordering}
 use Rattle.std.specs.declared.cmp.Ordering.TheVariants.{Less, Equal, Greater}
 use Rattle.std.specs.Cmp.{tied_itself}
@@ -12,7 +12,7 @@ use Rattle.std.specs.List.Sorted.{IsStrictlySortedBy}
 use Rattle.std.specs.Map.{lookup, keys_of}
 use Rattle.std.specs.BTreeMap.{is_at}
 use Rattle.std.specs.FinMap.{IsAntisymmetric, nat_cmp-IsAntisymmetric, slice_cmp-IsAntisymmetric}
-use Rattle.std.specs.FinMap.Entries.{find}
+use Rattle.std.specs.FinMap.Entries.{find, find-put}
 use Rattle.craq_names.specs.Maps.{key_cmp, at_key, at_number, put_key, same_bytes}
 use Rattle.craq_versions.specs.Versions.{Versions, AreVersions, CanSettle, CanSettleAs, clean_without, versions_from, versions_settled, without_newest}
 use Rattle.craq_names.specs.Places.{filled}
@@ -26,12 +26,35 @@ list_of es key = lookup (is_at (key_cmp key)) es
 abbrev pub IsWritten : {V : Type 0} → Entries V → Entries V → List ℕ → Versions V → Type 0
 IsWritten es gs key list = (q : List ℕ) → list_of gs q ≡ cond (is_at (key_cmp key) q) (Some list) (list_of es q)
 
+shadowed : {A : Type 0} (b : Bool) (x y z : A) → cond b x (cond b y z) ≡ cond b x z
+shadowed true x y z = refl
+shadowed false x y z = refl
+
 exact : IsAntisymmetric key_cmp
 exact = slice_cmp-IsAntisymmetric nat_cmp-IsAntisymmetric
 
-found_is : {V : Type 0} (es : Entries V) (key : List ℕ) → find key_cmp key es ≡ list_of es key
+pub found_is : {V : Type 0} (es : Entries V) (key : List ℕ) → find key_cmp key es ≡ list_of es key
 found_is [] key = refl
 found_is (e ∷ es) key = ap (cond (is_at (key_cmp key) e.0) (Some e.1)) (found_is es key)
+
+reversed_eq : (r : Ordering) → is_eq (ordering_reverse r) ≡ is_eq r
+reversed_eq Less = refl
+reversed_eq Equal = refl
+reversed_eq Greater = refl
+
+flipped : (q key : List ℕ) → eq_by_cmp key_cmp q key ≡ is_at (key_cmp key) q
+flipped q key = ap is_eq (nat_list_cmp_total.antisymm q key) ∙ reversed_eq (key_cmp key q)
+
+-- a list is put
+pub written_put : {V : Type 0} (es gs : Entries V) (key : List ℕ) (list : Versions V) → gs ≡ put_key es key list → IsWritten es gs key list
+written_put {V} es gs key list is q =
+    sym (found_is gs q) ∙ ap (find key_cmp q) is ∙ find-put key_cmp nat_list_cmp_total q key list es
+    ∙ ap (λ b. cond b (Some list) (find key_cmp q es)) (flipped q key) ∙ ap (cond (is_at (key_cmp key) q) (Some list)) (found_is es q)
+
+-- a list is put in place of one that was put before
+pub written_twice : {V : Type 0} (es fs gs : Entries V) (key : List ℕ) (empty list : Versions V) → fs ≡ put_key es key empty → gs ≡ put_key fs key list → IsWritten es gs key list
+written_twice es fs gs key empty list first second q =
+    written_put fs gs key list second q ∙ ap (cond (is_at (key_cmp key) q) (Some list)) (written_put es fs key empty first q) ∙ shadowed (is_at (key_cmp key) q) (Some list) (Some empty) (list_of es q)
 
 found_after : {V : Type 0} (es gs : Entries V) (key : List ℕ) (list : Versions V) → IsWritten es gs key list → (q : List ℕ) → find key_cmp q gs ≡ cond (is_at (key_cmp key) q) (Some list) (find key_cmp q es)
 found_after es gs key list at q = found_is gs q ∙ at q ∙ ap (cond (is_at (key_cmp key) q) (Some list)) (sym (found_is es q))

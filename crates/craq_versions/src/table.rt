@@ -1,5 +1,5 @@
 //! The version lists by key. A compacting past holds one such table.
-ghost use Rattle.std.specs.Prelude.{◌≡◌, ℕ, ◌+◌, ◌<◌, ◌≤◌, List, [], map, IsOk, OnOk, OnErr, if◌then◌else◌};
+ghost use Rattle.std.specs.Prelude.{◌≡◌, ℕ, ◌+◌, ◌<◌, ◌≤◌, List, [], map, IfOk, IsOk, OnOk, OnErr, if◌then◌else◌};
 ghost use Rattle.std.specs.Option.{option_map};
 ghost use Rattle.std.specs.List.{AllByRecursion};
 ghost use Rattle.std.specs.List.Sorted.{IsStrictlySortedBy};
@@ -10,10 +10,10 @@ ghost use Rattle.craq_versions.specs.Tables.{held_at, held_in, only_clean, poppe
 use crate::lists::{
     Lists, place, pop_in, push_in, put_clean_in, reserve_in, settle_as_in, settle_in,
 };
-use crate::{Keys, Objects, VersionList};
+use crate::{Objects, VersionList};
+use craq_key_map::KeyMap;
 use craq_names::{Key, Version};
 use std::alloc::{AllocError, Global};
-use std::collections::BTreeMap;
 use std::marker::Model;
 
 /// A node's versions of the objects of a chain, by key, each version with a held item. A key for
@@ -25,15 +25,12 @@ pub struct ObjectTable<V> {
 }
 
 impl<V> Model for ObjectTable<V> {
-    ghost use Rattle.std.specs.BTreeMap.{IsOrdered};
-    ghost use Rattle.craq_names.specs.Maps.{key_cmp};
+    ghost use Rattle.craq_key_map.specs.Hashed.{entries_of};
     ghost use Rattle.craq_versions.specs.Tables.{Table, table_of};
 
     ghost Value = { Table V };
 
-    ghost view = { λ t. table_of t.lists.entries };
-
-    ghost invariant = { λ t. IsOrdered key_cmp t.lists };
+    ghost view = { λ t. table_of (entries_of t.lists) };
 }
 
 impl<V: Drop> ObjectTable<V> {
@@ -42,7 +39,7 @@ impl<V: Drop> ObjectTable<V> {
         ensures { result.objects ≡ [] }
     {
         ObjectTable {
-            lists: BTreeMap::new(alloc),
+            lists: KeyMap::new(alloc),
             alloc,
         }
     }
@@ -56,11 +53,10 @@ impl<V: Drop> ObjectTable<V> {
         ensures succeeds { 0 < room_at self.old key.now → IsOk result }
     {
         place(self.alloc, &mut self.lists, key)?;
-        reserve_in(&mut self.lists, key)
+        reserve_in(self.alloc, &mut self.lists, key)
     }
 
-    /// Appends the next version of the key with its held item. Looks the key up once, or twice if
-    /// the key is new. Fails only when out of memory, and only if no room is reserved; the versions
+    /// Appends the next version of the key with its held item. Looks the key up once. Fails only when out of memory, and only if no room is reserved; the versions
     /// are unchanged on error.
     pub fn push(&mut self, key: &Key, version: Version, held: V) -> Result<(), AllocError>
         requires { CanPush (held_at self.old key.now).versions version }
@@ -91,7 +87,7 @@ impl<V: Drop> ObjectTable<V> {
         ensures rising { IsStrictlySortedBy key_cmp (map (λ o. o.0) self.new.objects) }
         ensures room { KeepsRoom self.old self.new }
     {
-        pop_in(&mut self.lists, key);
+        pop_in(self.alloc, &mut self.lists, key);
     }
 
     /// Reserves room for one more version of each of these keys, whose next `push` then allocates
@@ -115,7 +111,7 @@ impl<V: Drop> ObjectTable<V> {
         ensures objects { self.new.objects ≡ put_key self.old.objects key.now (settled (held_at self.old key.now) version) }
         ensures room { KeepsRoom self.old self.new }
     {
-        settle_in(&mut self.lists, key, version);
+        settle_in(self.alloc, &mut self.lists, key, version);
     }
 
     /// Makes this version of the key the clean one with this held item, and drops the key's older
@@ -126,7 +122,7 @@ impl<V: Drop> ObjectTable<V> {
         ensures were_versions { AreVersions (held_at self.old key.now).versions (held_at self.old key.now).clean }
         ensures rooms { KeepsOthersRoom self.old self.new key.now }
     {
-        settle_as_in(&mut self.lists, key, version, held);
+        settle_as_in(self.alloc, &mut self.lists, key, version, held);
     }
 
     /// Returns the versions of a key, `None` if it has none. Allocates nothing.
@@ -139,20 +135,12 @@ impl<V: Drop> ObjectTable<V> {
         }
     }
 
-    /// Iterates over the keys that have versions, ascending, each with its versions. Allocates
-    /// nothing.
-    pub fn iter(&self) -> Objects<'_, V>
-        ensures objects { result ≡ self.now.objects }
-        ensures rising { IsStrictlySortedBy key_cmp (map (λ o. o.0) result) }
+    /// Iterates over the keys that have versions, ascending, each with its versions. Sorts copies of
+    /// the keys. Fails only when out of memory.
+    pub fn iter(&self) -> Result<Objects<'_, V>, AllocError>
+        ensures objects { IfOk result (λ objects. objects ≡ self.now.objects) }
+        ensures rising { IfOk result (λ objects. IsStrictlySortedBy key_cmp (map (λ o. o.0) objects)) }
     {
-        Objects::of(self.lists.iter())
-    }
-
-    /// Iterates over the keys that have versions, ascending. Allocates nothing.
-    pub fn keys(&self) -> Keys<'_, V>
-        ensures keys { result ≡ map (λ o. o.0) self.now.objects }
-        ensures rising { IsStrictlySortedBy key_cmp result }
-    {
-        Keys::of(self.iter())
+        Ok(Objects::of(self.lists.sorted()?))
     }
 }

@@ -1,10 +1,37 @@
-use Rattle.craq_versions.proofs.Written.{objects_placed, rooms_kept, no_list_room}
+use Rattle.std.proofs.Common.{List, ℕ, ap, arith, refl, rules, subst, sym, ◌∙◌}
+use Rattle.std.specs.Prelude.{is_some}
+use Rattle.std.proofs.lemmas.Result.{on_ok_weaker, on_err_weaker}
+use Rattle.craq_key_map.specs.Hashed.{entries_of}
+use Rattle.craq_key_map.proofs.Maps.{either}
+use Rattle.craq_versions.specs.Tables.{table_of, Entries, KeepsRoom, KeepsOthersRoom}
+use Rattle.craq_versions.proofs.Taken.{keeps_others, keeps_room, put_back, put_found, rise, was, was_none}
+use Rattle.craq_versions.proofs.Written.{list_of, no_list_room, objects_placed, rooms_kept, written_put}
 use Rattle.craq_versions.proofs.lists.put_empty.Goals as goal
 
 pub returns-clause-objects : goal.returns-clause-objects
 returns-clause-objects g c =
-    objects_placed c.args.lists.now.entries c.insert.new.self.entries c.args.key c.args.list c.insert.ensures.was_ordered c.insert.ensures.ordered c.requires.absent c.in_ok-insert.ensures.updates.0 c.requires.empty
+    let m = c.args.lists.now in
+    let k = c.insert.new.self in
+    let es = entries_of m in
+    let gs = entries_of k in
+    either c.insert.result c.insert.ensures.ok c.insert.ensures.err
+    (λ is. objects_placed es gs c.args.key c.new.result (rise m) (rise k) (sym (was_none m c.args.key c.requires)) (written_put es gs c.args.key c.new.result is) c.new.ensures.versions)
+    (λ is. ap (λ xs. (table_of xs).objects) is)
 
 pub returns-clause-room : goal.returns-clause-room
 returns-clause-room g c =
-    rooms_kept c.args.lists.now.entries c.insert.new.self.entries c.args.key c.args.list (no_list_room c.args.lists.now.entries c.args.key c.args.list.room c.requires.absent) c.in_ok-insert.ensures.updates.0
+    let m = c.args.lists.now in
+    let k = c.insert.new.self in
+    let es = entries_of m in
+    let gs = entries_of k in
+    either c.insert.result c.insert.ensures.ok c.insert.ensures.err
+    (λ is. rooms_kept es gs c.args.key c.new.result (no_list_room es c.args.key c.new.result.room (sym (was_none m c.args.key c.requires))) (written_put es gs c.args.key c.new.result is))
+    (λ is. keeps_room es gs is)
+
+pub returns-clause-placed : goal.returns-clause-placed
+returns-clause-placed g c =
+    let m = c.args.lists.now in
+    let k = c.insert.new.self in
+    let es = entries_of m in
+    let gs = entries_of k in
+    on_ok_weaker c.insert.result (λ is. ap is_some (put_found es gs c.args.key c.new.result is)) c.insert.ensures.ok

@@ -1,9 +1,47 @@
-use Rattle.craq_versions.proofs.Written.{objects_more, others_kept}
+use Rattle.std.proofs.Common.{List, ℕ, ap, arith, refl, rules, subst, sym, ◌∙◌}
+use Rattle.std.specs.Prelude.{is_some}
+use Rattle.std.proofs.lemmas.Result.{on_ok_weaker, on_err_weaker}
+use Rattle.craq_key_map.specs.Hashed.{entries_of}
+use Rattle.craq_key_map.proofs.Maps.{either}
+use Rattle.craq_versions.specs.Tables.{table_of, Entries, KeepsRoom, KeepsOthersRoom}
+use Rattle.craq_versions.proofs.Taken.{keeps_others, keeps_room, put_back, put_found, rise, was, was_none}
+use Rattle.craq_versions.proofs.Written.{objects_more, others_kept, written_put}
 use Rattle.craq_versions.proofs.lists.put_list.Goals as goal
 
-pub returns-clause-ok : goal.returns-clause-ok
-returns-clause-ok g c =
-    objects_more c.args.lists.now.entries c.insert.new.self.entries c.args.key c.args.list c.insert.ensures.was_ordered c.insert.ensures.ordered c.in_ok-insert.ensures.updates.0 c.requires.some
+pub returns-in-Some-clause-ok : goal.returns-in-Some-clause-ok
+returns-in-Some-clause-ok g c =
+    let m = c.args.lists.now in
+    let k = c.replace.new.self in
+    objects_more (entries_of m) (entries_of k) c.args.key c.args.list (rise m) (rise k) (written_put (entries_of m) (entries_of k) c.args.key c.args.list (c.replace.ensures.new c.args.key c.in-Some.ensures.some)) c.requires.some
 
-pub returns-clause-rooms : goal.returns-clause-rooms
-returns-clause-rooms g c = others_kept c.args.lists.now.entries c.insert.new.self.entries c.args.key c.args.list c.in_ok-insert.ensures.updates.0
+pub returns-in-Some-clause-rooms : goal.returns-in-Some-clause-rooms
+returns-in-Some-clause-rooms g c =
+    let m = c.args.lists.now in
+    let k = c.replace.new.self in
+    others_kept (entries_of m) (entries_of k) c.args.key c.args.list (written_put (entries_of m) (entries_of k) c.args.key c.args.list (c.replace.ensures.new c.args.key c.in-Some.ensures.some))
+
+pub returns-in-None-clause-ok : goal.returns-in-None-clause-ok
+returns-in-None-clause-ok g c =
+    let m = c.args.lists.now in
+    let k = c.insert.new.self in
+    let es = entries_of m in
+    let gs = entries_of k in
+    on_ok_weaker c.insert.result (λ is. objects_more es gs c.args.key c.args.list (rise m) (rise k) (written_put es gs c.args.key c.args.list is) c.requires.some) c.insert.ensures.ok
+
+pub returns-in-None-clause-err : goal.returns-in-None-clause-err
+returns-in-None-clause-err g c =
+    let m = c.args.lists.now in
+    let k = c.insert.new.self in
+    let es = entries_of m in
+    let gs = entries_of k in
+    on_err_weaker c.insert.result (λ is. ap (λ xs. (table_of xs).objects) is) c.insert.ensures.err
+
+pub returns-in-None-clause-rooms : goal.returns-in-None-clause-rooms
+returns-in-None-clause-rooms g c =
+    let m = c.args.lists.now in
+    let k = c.insert.new.self in
+    let es = entries_of m in
+    let gs = entries_of k in
+    either c.insert.result c.insert.ensures.ok c.insert.ensures.err
+    (λ is. others_kept es gs c.args.key c.args.list (written_put es gs c.args.key c.args.list is))
+    (λ is. keeps_others es gs c.args.key is)

@@ -1,24 +1,45 @@
-use Rattle.std.proofs.Common.{arith, rules}
-use Rattle.std.proofs.lemmas.Result.{on_ok_weaker}
+use Rattle.std.proofs.Common.{ap, arith, rules, sym, ◌∙◌}
+use Rattle.std.proofs.lemmas.Result.{on_ok_weaker, on_err_weaker}
+use Rattle.craq_key_map.specs.Hashed.{entries_of}
+use Rattle.craq_versions.proofs.Taken.{put_back, rise, was, was_none}
 use Rattle.craq_versions.proofs.Written.{objects_stay, rooms_kept, room_here, room_old}
 use Rattle.craq_versions.proofs.lists.reserve_in.Goals as goal
 
 pub returns-in-Some-clause-objects : goal.returns-in-Some-clause-objects
 returns-in-Some-clause-objects g c =
-    objects_stay c.args.lists.now.entries _ c.args.key.now c.in-Some.list.now c.reserve.new.self c.get_mut.ensures.ordered (c.get_mut.follows.holds c.reserve.new.self).4 c.in-Some.ensures.value
-    ((c.get_mut.follows.holds c.reserve.new.self).3 (search rules)).0 c.reserve.ensures.versions c.reserve.ensures.clean
+    let m = c.args.lists.now in
+    let k = c.replace.new.self in
+    let key = c.args.key.now in
+    let old = was m key c.replace-list.result (c.replace-list.ensures.old key c.in-Some.ensures.some) in
+    let written = put_back m c.replace-list.new.self k c.in-Some.place key c.new.result c.reserve-reserved.new.self c.in-Some.ensures.some c.replace-list.ensures.new c.replace-list.ensures.place c.replace.ensures.new in
+    objects_stay (entries_of m) (entries_of k) key c.replace-list.result c.reserve-reserved.new.self (rise m) (rise k) old written c.reserve-reserved.ensures.versions c.reserve-reserved.ensures.clean
 
 pub returns-in-Some-clause-room : goal.returns-in-Some-clause-room
 returns-in-Some-clause-room g c =
-    let old = room_old c.args.lists.now.entries c.args.key.now c.in-Some.list.now c.in-Some.ensures.value in
-    rooms_kept c.args.lists.now.entries _ c.args.key.now c.reserve.new.self (omega (arith, old, c.reserve.ensures.room)) ((c.get_mut.follows.holds c.reserve.new.self).3 (search rules)).0
+    let m = c.args.lists.now in
+    let k = c.replace.new.self in
+    let key = c.args.key.now in
+    let old = was m key c.replace-list.result (c.replace-list.ensures.old key c.in-Some.ensures.some) in
+    let written = put_back m c.replace-list.new.self k c.in-Some.place key c.new.result c.reserve-reserved.new.self c.in-Some.ensures.some c.replace-list.ensures.new c.replace-list.ensures.place c.replace.ensures.new in
+    let before = room_old (entries_of m) key c.replace-list.result old in
+    rooms_kept (entries_of m) (entries_of k) key c.reserve-reserved.new.self (omega (arith, before, c.reserve-reserved.ensures.room)) written
 
 pub returns-in-Some-clause-ok : goal.returns-in-Some-clause-ok
 returns-in-Some-clause-ok g c =
-    let here = room_here c.args.lists.now.entries _ c.args.key.now c.reserve.new.self ((c.get_mut.follows.holds c.reserve.new.self).3 (search rules)).0 in
-    on_ok_weaker c.reserve.result (λ room. omega (arith, here, room)) c.reserve.ensures.ok
+    let m = c.args.lists.now in
+    let k = c.replace.new.self in
+    let key = c.args.key.now in
+    let old = was m key c.replace-list.result (c.replace-list.ensures.old key c.in-Some.ensures.some) in
+    let written = put_back m c.replace-list.new.self k c.in-Some.place key c.new.result c.reserve-reserved.new.self c.in-Some.ensures.some c.replace-list.ensures.new c.replace-list.ensures.place c.replace.ensures.new in
+    let here = room_here (entries_of m) (entries_of k) key c.reserve-reserved.new.self written in
+    on_ok_weaker c.reserve-reserved.result (λ room. omega (arith, here, room)) c.reserve-reserved.ensures.ok
 
 pub returns-in-Some-clause-succeeds : goal.returns-in-Some-clause-succeeds
 returns-in-Some-clause-succeeds g c =
-    let old = room_old c.args.lists.now.entries c.args.key.now c.in-Some.list.now c.in-Some.ensures.value in
-    λ room. c.reserve.ensures.succeeds (omega (arith, old, room))
+    let m = c.args.lists.now in
+    let k = c.replace.new.self in
+    let key = c.args.key.now in
+    let old = was m key c.replace-list.result (c.replace-list.ensures.old key c.in-Some.ensures.some) in
+    let written = put_back m c.replace-list.new.self k c.in-Some.place key c.new.result c.reserve-reserved.new.self c.in-Some.ensures.some c.replace-list.ensures.new c.replace-list.ensures.place c.replace.ensures.new in
+    let before = room_old (entries_of m) key c.replace-list.result old in
+    λ room. c.reserve-reserved.ensures.succeeds (omega (arith, before, room))

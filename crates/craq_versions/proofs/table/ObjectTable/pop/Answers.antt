@@ -1,6 +1,8 @@
 use Rattle.std.proofs.Common.{refl}
+use Rattle.craq_key_map.specs.Hashed.{entries_of}
+use Rattle.craq_versions.proofs.Taken.{rise}
 use Rattle.craq_versions.proofs.Written.{rising_keys}
 use Rattle.craq_versions.proofs.table.ObjectTable.pop.Goals as goal
 
 pub returns-clause-rising : goal.returns-clause-rising
-returns-clause-rising g c = rising_keys c.pop_in.new.lists.entries _ refl c.pop_in.ensures.ordered
+returns-clause-rising g c = rising_keys (entries_of c.pop_in.new.lists) _ refl (rise c.pop_in.new.lists)

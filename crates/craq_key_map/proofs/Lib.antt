@@ -1,0 +1,7 @@
+pub mod Lookups
+pub mod Writes
+pub mod Splitting
+pub mod Sorting
+pub mod Chunking
+pub mod Maps
+pub mod Copied

@@ -1,5 +1,5 @@
 -- A list that is taken out of a map, changed, and put back.
-use Rattle.std.proofs.Common.{◌≡◌, List, ℕ, Option, Some, None, cond, sym, ◌∙◌, ap, arith, subst}
+use Rattle.std.proofs.Common.{◌≡◌, List, ℕ, Some, None, cond, sym, ◌∙◌, ap, arith, subst}
 use Rattle.std.specs.List.Sorted.{IsStrictlySortedBy}
 use Rattle.std.specs.Map.{keys_of}
 use Rattle.craq_names.specs.Maps.{at_key, key_cmp, put_key}

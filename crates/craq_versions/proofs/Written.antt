@@ -13,7 +13,7 @@ use Rattle.std.specs.Map.{lookup, keys_of}
 use Rattle.std.specs.BTreeMap.{is_at}
 use Rattle.std.specs.FinMap.{IsAntisymmetric, nat_cmp-IsAntisymmetric, slice_cmp-IsAntisymmetric}
 use Rattle.std.specs.FinMap.Entries.{find, find-put}
-use Rattle.craq_names.specs.Maps.{key_cmp, at_key, at_number, put_key, same_bytes}
+use Rattle.craq_names.specs.Maps.{key_cmp, at_key, put_key, same_bytes}
 use Rattle.craq_versions.specs.Versions.{Versions, AreVersions, CanSettle, CanSettleAs, clean_without, versions_from, versions_settled, without_newest}
 use Rattle.craq_names.specs.Places.{filled}
 use Rattle.craq_versions.specs.Tables.{Held, Entries, nothing, held_at, popped, room_at, pushed, settled, settled_as, unless_empty, held_in, shown, table_of, KeepsRoom, KeepsOthersRoom}

@@ -38,11 +38,7 @@ fn put_empty<V: Drop>(alloc: Global, lists: &mut Lists<V>, key: Key) -> Result<(
 }
 
 /// Reserves room for one more version of a key that has a list. Fails only when out of memory.
-pub fn reserve_in<V: Drop>(
-    alloc: Global,
-    lists: &mut Lists<V>,
-    key: &Key,
-) -> Result<(), AllocError>
+pub fn reserve_in<V: Drop>(alloc: Global, lists: &mut Lists<V>, key: &Key) -> Result<(), AllocError>
     requires placed { IsSome (at_key (entries_of lists.old) key.now) }
     ensures objects { (table_of (entries_of lists.new)).objects ≡ (table_of (entries_of lists.old)).objects }
     ensures room { KeepsRoom (table_of (entries_of lists.old)) (table_of (entries_of lists.new)) }

@@ -1,5 +1,4 @@
-use Rattle.std.proofs.Common.{ap, arith, refl, rules, sym, ◌∙◌}
-use Rattle.std.proofs.lemmas.Result.{on_ok_weaker, on_err_weaker}
+use Rattle.std.proofs.Common.{arith, refl}
 use Rattle.craq_key_map.specs.Hashed.{entries_of}
 use Rattle.craq_versions.proofs.Taken.{put_back, rise, was, was_none}
 use Rattle.craq_versions.proofs.Written.{held_popped, none_popped, room_old, rooms_kept}

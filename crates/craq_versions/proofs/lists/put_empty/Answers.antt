@@ -1,11 +1,11 @@
-use Rattle.std.proofs.Common.{List, ℕ, ap, arith, refl, rules, subst, sym, ◌∙◌}
+use Rattle.std.proofs.Common.{ap, sym}
 use Rattle.std.specs.Prelude.{is_some}
-use Rattle.std.proofs.lemmas.Result.{on_ok_weaker, on_err_weaker}
+use Rattle.std.proofs.lemmas.Result.{on_ok_weaker}
 use Rattle.craq_key_map.specs.Hashed.{entries_of}
 use Rattle.craq_key_map.proofs.Maps.{either}
-use Rattle.craq_versions.specs.Tables.{table_of, Entries, KeepsRoom, KeepsOthersRoom}
-use Rattle.craq_versions.proofs.Taken.{keeps_others, keeps_room, put_back, put_found, rise, was, was_none}
-use Rattle.craq_versions.proofs.Written.{list_of, no_list_room, objects_placed, rooms_kept, written_put}
+use Rattle.craq_versions.specs.Tables.{table_of}
+use Rattle.craq_versions.proofs.Taken.{keeps_room, put_found, rise, was_none}
+use Rattle.craq_versions.proofs.Written.{no_list_room, objects_placed, rooms_kept, written_put}
 use Rattle.craq_versions.proofs.lists.put_empty.Goals as goal
 
 pub returns-clause-objects : goal.returns-clause-objects

@@ -1,10 +1,9 @@
-use Rattle.std.proofs.Common.{List, ℕ, ap, arith, refl, rules, subst, sym, ◌∙◌}
-use Rattle.std.specs.Prelude.{is_some}
+use Rattle.std.proofs.Common.{ap}
 use Rattle.std.proofs.lemmas.Result.{on_ok_weaker, on_err_weaker}
 use Rattle.craq_key_map.specs.Hashed.{entries_of}
 use Rattle.craq_key_map.proofs.Maps.{either}
-use Rattle.craq_versions.specs.Tables.{table_of, Entries, KeepsRoom, KeepsOthersRoom}
-use Rattle.craq_versions.proofs.Taken.{keeps_others, keeps_room, put_back, put_found, rise, was, was_none}
+use Rattle.craq_versions.specs.Tables.{table_of}
+use Rattle.craq_versions.proofs.Taken.{keeps_others, rise}
 use Rattle.craq_versions.proofs.Written.{objects_more, others_kept, written_put}
 use Rattle.craq_versions.proofs.lists.put_list.Goals as goal
 

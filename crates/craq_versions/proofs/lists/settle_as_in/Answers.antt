@@ -1,5 +1,3 @@
-use Rattle.std.proofs.Common.{ap, arith, rules, sym, ◌∙◌}
-use Rattle.std.proofs.lemmas.Result.{on_ok_weaker, on_err_weaker}
 use Rattle.craq_key_map.specs.Hashed.{entries_of}
 use Rattle.craq_versions.proofs.Taken.{put_back, rise, was, was_none}
 use Rattle.craq_versions.proofs.Written.{settles_as_in, none_settles_as, objects_settled_as, others_kept, versions_of_held}

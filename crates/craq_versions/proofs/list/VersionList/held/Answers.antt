@@ -1,4 +1,4 @@
-use Rattle.std.proofs.Common.{◌∙◌, ap, length, slice_index_or, sym}
+use Rattle.std.proofs.Common.{◌∙◌, ap, slice_index_or}
 use Rattle.craq_versions.proofs.Numbered.{held_numbered, length_numbered}
 use Rattle.craq_versions.proofs.list.VersionList.held.Goals as goal
 

@@ -1,5 +1,5 @@
 use Rattle.std.proofs.Common.{arith, length, refl}
-use Rattle.craq_versions.proofs.Numbered.{newest_is, newest_none}
+use Rattle.craq_versions.proofs.Numbered.{newest_is}
 use Rattle.craq_versions.proofs.list.VersionList.last.Goals as goal
 
 pub returns-in-Some : goal.returns-in-Some

@@ -1,4 +1,4 @@
-use Rattle.std.proofs.Common.{◌≡◌, ◌-◌, ap, length, refl, sym, take, ◌∙◌}
+use Rattle.std.proofs.Common.{◌≡◌, ◌-◌, ap, length, refl, take, ◌∙◌}
 use Rattle.craq_versions.specs.Versions.{numbered}
 use Rattle.craq_versions.proofs.Numbered.{clean_left, stored_without, versions_stored, versions_without}
 use Rattle.craq_versions.proofs.list.VersionList.pop.Goals as goal

@@ -43,7 +43,7 @@ full_before c cs i h big low =
     let more : i < length c.items + length (joined cs) = subst (λ n. i < n) (length-append c.items (joined cs)) low in
     h.full 0 c refl (omega (arith, some_joined cs (i - length c.items) (omega (arith, short, more, big))))
 
--- a chunk that an index is in has so many items
+-- a chunk that has an index is longer than it
 long_enough : {X : Type 0} (c : Vec X Global) (cs : List (Vec X Global)) (i : ℕ) → AreChunks (c ∷ cs) → i < 1024 → i < length (joined (c ∷ cs)) → i < length c.items
 long_enough c [] i h small low = omega (arith, low, length-append c.items [])
 long_enough c (d ∷ ds) i h small low = omega (arith, small, h.full 0 c refl (omega arith))

@@ -207,7 +207,7 @@ empty_entries {T} buckets layout empty =
     same_entries key_cmp nat_list_cmp_total exact (entries_of m) [] (entries_sorted (from_entries (all_of m))) tt
     (λ q. at_entries m q ∙ ap (λ (xs : Bucket T). at_key xs q) (nothing_in m.buckets (empties buckets empty)))
 
--- what follows in either case
+-- a conclusion from both cases
 pub either : {A E P Q R : Type 0} (r : Result A E) → OnOk r P → OnErr r Q → (P → R) → (Q → R) → R
 either (Ok x) ok err f g = f ok
 either (Err e) ok err f g = g err

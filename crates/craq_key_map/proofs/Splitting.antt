@@ -37,7 +37,7 @@ three r count =
       ] refl
     ] refl
 
--- what goes to the next bucket comes from the bucket that is split; all else stays
+-- a key that goes to the next bucket comes from the bucket that is split; all others stay
 next_moved : (r half count : ℕ) → r < half + half → half ≤ count → folded r half (count + 1) ≡ count → folded r half count ≡ count - half
 next_moved r half count small from goes =
     let split : (r < count) ⊎ ((r ≡ count) ⊎ (count < r)) → folded r half count ≡ count - half = elim [

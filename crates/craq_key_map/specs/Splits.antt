@@ -5,7 +5,7 @@ use Rattle.std.specs.declared.hash.DefaultHasher.{DefaultHasher}
 use Rattle.craq_names.specs.Maps.{key_cmp}
 use Rattle.craq_key_map.specs.Hashed.{Bucket, bucket_of, hash_of}
 
--- the key goes to the last of so many buckets and one more
+-- the key goes to the last bucket, once there is one more
 abbrev pub goes : DefaultHasher → ℕ → ℕ → List ℕ → Bool
 goes fed half count key = bucket_of (hash_of fed key) half (count + 1) == count
 

@@ -33,7 +33,7 @@ was_none m key at = sym (sym (found_is (entries_of m) key) ∙ at)
 pub put_found : {V : Type 0} (es gs : Entries V) (key : List ℕ) (list : Versions V) → gs ≡ put_key es key list → at_key gs key ≡ Some list
 put_found es gs key list is = found_is gs key ∙ written_put es gs key list is key ∙ ap (λ b. cond b (Some list) (list_of es key)) (own_place key)
 
--- the same lists have the same room
+-- equal lists have equal room
 pub keeps_room : {V : Type 0} (es gs : Entries V) → gs ≡ es → KeepsRoom (table_of es) (table_of gs)
 keeps_room {V} es gs is = subst (λ (xs : Entries V). KeepsRoom (table_of es) (table_of xs)) (sym is) (λ q. omega arith)
 

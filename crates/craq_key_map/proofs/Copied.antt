@@ -16,7 +16,8 @@ use Rattle.craq_key_map.specs.declared.layout.Layout.{Layout}
 use Rattle.craq_key_map.proofs.Maps.{length_map}
 use Rattle.craq_key_map.proofs.Sorting.{sorted_entries}
 
-nil_after : {X : Type 0} (xs : List X) → xs ++ [] ≡ xs
+-- no items at the end change nothing
+pub nil_after : {X : Type 0} (xs : List X) → xs ++ [] ≡ xs
 nil_after [] = refl
 nil_after (x ∷ xs) = ap (λ ys. x ∷ ys) (nil_after xs)
 
@@ -47,9 +48,13 @@ sorted_lent {T} (e ∷ es) h k d a b =
     ap (λ (x : List ℕ × T). is_lt (key_cmp x.0 (get_or (map lent xs) k d).0)) (get_map lent xs (k + 1) d e low)
     ∙ ap (λ (x : List ℕ × T). is_lt (key_cmp (get_or xs (k + 1) e).0 x.0)) (get_map lent xs k d e (omega (arith, low))) ∙ h k e a low
 
+-- the items of all buckets are all entries
+pub all_copied : {T : Type 0} (buckets : List (Vec (List ℕ × T) Global)) (layout : Layout) (n : ℕ) → n ≡ length buckets → flat_map (λ b. b.items) (take n buckets) ≡ all_of (hashed buckets layout)
+all_copied {T} buckets layout n count = ap (λ k. flat_map (λ (b : Vec (List ℕ × T) Global). b.items) (take k buckets)) count ∙ ap (flat_map (λ (b : Vec (List ℕ × T) Global). b.items)) (take_all buckets) ∙ all_items buckets
+
 -- the copies in the order of their keys are the entries
 pub sorted_copies : {T : Type 0} (buckets : List (Vec (List ℕ × T) Global)) (layout : Layout) → AreHashed (hashed buckets layout) → (n : ℕ) → n ≡ length buckets → (xs ys : List (List ℕ × Bor T)) → map lent xs ≡ flat_map (λ b. b.items) (take n buckets)
     → IsPermutation xs ys → IsSortedBy (λ x y. is_lt (key_cmp x.0 y.0)) ys → map lent ys ≡ entries_of (hashed buckets layout)
 sorted_copies {T} buckets layout h n count xs ys copied moved sorted =
-    let same : map lent xs ≡ all_of (hashed buckets layout) = copied ∙ ap (λ k. flat_map (λ (b : Vec (List ℕ × T) Global). b.items) (take k buckets)) count ∙ ap (flat_map (λ (b : Vec (List ℕ × T) Global). b.items)) (take_all buckets) ∙ all_items buckets in
+    let same : map lent xs ≡ all_of (hashed buckets layout) = copied ∙ all_copied buckets layout n count in
     sorted_entries (hashed buckets layout) h (map lent ys) (subst (λ (zs : Bucket T). IsPermutation zs (map lent ys)) same (IsPermutation-map lent xs ys moved)) (sorted_lent ys sorted)

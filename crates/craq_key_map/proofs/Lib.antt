@@ -5,3 +5,4 @@ pub mod Sorting
 pub mod Chunking
 pub mod Maps
 pub mod Copied
+pub mod Next

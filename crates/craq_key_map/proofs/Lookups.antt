@@ -48,7 +48,8 @@ pub none_unless : {T : Type 0} (o : Option T) → (IsSome o → ⊥) → o ≡ N
 none_unless None h = refl
 none_unless (Some x) h = absurd (h refl)
 
-none_first : {T : Type 0} (q : List ℕ) (xs ys : Bucket T) → at_key xs q ≡ None → at_key (xs ++ ys) q ≡ at_key ys q
+-- a key that is not in the first entries is found in the others, or nowhere
+pub none_first : {T : Type 0} (q : List ℕ) (xs ys : Bucket T) → at_key xs q ≡ None → at_key (xs ++ ys) q ≡ at_key ys q
 none_first q [] ys none = refl
 none_first q (e ∷ es) ys none =
     elim (eq_by_cmp key_cmp q e.0) as (λ b. cond b (Some e.1) (at_key es q) ≡ None → cond b (Some e.1) (at_key (es ++ ys) q) ≡ at_key ys q) [

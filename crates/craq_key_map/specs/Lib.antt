@@ -1,3 +1,4 @@
 pub mod Chunked
 pub mod Hashed
+pub mod Rising
 pub mod Splits

@@ -4,8 +4,11 @@
 mod buckets;
 mod chunks;
 mod layout;
+mod least;
 mod map;
 mod place;
+mod rising;
 
 pub use map::KeyMap;
 pub use place::Place;
+pub use rising::Rising;

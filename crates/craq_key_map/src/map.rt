@@ -6,11 +6,14 @@ ghost use Rattle.std.specs.Option.{option_copied};
 ghost use Rattle.std.specs.Ordering.{is_lt};
 ghost use Rattle.craq_names.specs.Maps.{at_key, key_cmp, put_key};
 ghost use Rattle.craq_key_map.specs.Hashed.{entries_of, hashed, key_of, lent, slot_of, AreHashed};
+ghost use Rattle.craq_key_map.specs.Rising.{lent_least, IsNext};
 
 use crate::Place;
+use crate::Rising;
 use crate::buckets::{Bucket, add, count_going, deal, index_in};
 use crate::chunks::Chunks;
 use crate::layout::Layout;
+use crate::least::{Lent, least_in};
 use craq_names::{Copied, Key};
 use std::alloc::{AllocError, Global};
 use std::marker::Model;
@@ -192,6 +195,26 @@ impl<T: Drop> KeyMap<T> {
         }
         self.layout.half = self.layout.count;
         Ok(())
+    }
+
+    /// Returns the least key above `last` with its item, the least of all without `last`; `None` if
+    /// there is none. Scans all keys. Allocates nothing.
+    pub(crate) fn least_above<'a>(&'a self, last: Option<&Key>) -> Option<Lent<'a, T>>
+        ensures { IsNext (entries_of self.now) (option_copied last.entry) (lent_least result) }
+    {
+        let mut least = None;
+        for index in 0..self.layout.count {
+            least = least_in(last, least, self.buckets.get(index).as_slice());
+        }
+        least
+    }
+
+    /// Iterates over the keys, ascending, each with its item. Allocates nothing, and scans the map
+    /// for each key.
+    pub fn rising(&self) -> Rising<'_, T>
+        ensures { result ≡ entries_of self.now }
+    {
+        Rising::of(self)
     }
 
     /// Returns copies of all keys, sorted, each with its item. Fails only when out of memory.

@@ -202,7 +202,7 @@ where
 }
 
 fn print_keys<R: Print>(rt: &R, table: &ObjectTable<Value>) -> io::Result<()> {
-    for (key, _) in table.iter()? {
+    for key in table.keys() {
         println!(rt; "{key:?}")?;
     }
     Ok(())

@@ -80,3 +80,6 @@ entry_of p = (p.0, p.1.now)
 -- a key with its list's versions
 abbrev pub shown_pair : {V : Type 0} → List ℕ × Bor (Versions V) → List ℕ × Held V
 shown_pair p = (p.0, held_in p.1.now)
+
+abbrev pub shown_key : Bor (List ℕ) → List ℕ
+shown_key key = key.now

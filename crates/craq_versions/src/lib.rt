@@ -8,6 +8,6 @@ mod list;
 mod lists;
 mod table;
 
-pub use iterators::Objects;
+pub use iterators::{Keys, Objects};
 pub use list::VersionList;
 pub use table::ObjectTable;

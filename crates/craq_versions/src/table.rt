@@ -10,7 +10,7 @@ ghost use Rattle.craq_versions.specs.Tables.{held_at, held_in, only_clean, poppe
 use crate::lists::{
     Lists, place, pop_in, push_in, put_clean_in, reserve_in, settle_as_in, settle_in,
 };
-use crate::{Objects, VersionList};
+use crate::{Keys, Objects, VersionList};
 use craq_key_map::KeyMap;
 use craq_names::{Key, Version};
 use std::alloc::{AllocError, Global};
@@ -56,8 +56,8 @@ impl<V: Drop> ObjectTable<V> {
         reserve_in(self.alloc, &mut self.lists, key)
     }
 
-    /// Appends the next version of the key with its held item. Looks the key up once. Fails only when out of memory, and only if no room is reserved; the versions
-    /// are unchanged on error.
+    /// Appends the next version of the key with its held item. Looks the key up once. Fails only
+    /// when out of memory, and only if no room is reserved; the versions are unchanged on error.
     pub fn push(&mut self, key: &Key, version: Version, held: V) -> Result<(), AllocError>
         requires { CanPush (held_at self.old key.now).versions version }
         ensures ok { OnOk result (self.new.objects ≡ put_key self.old.objects key.now (pushed (held_at self.old key.now) version held)) }
@@ -142,5 +142,14 @@ impl<V: Drop> ObjectTable<V> {
         ensures rising { IfOk result (λ objects. IsStrictlySortedBy key_cmp (map (λ o. o.0) objects)) }
     {
         Ok(Objects::of(self.lists.sorted()?))
+    }
+
+    /// Iterates over the keys that have versions, ascending. Allocates nothing, and scans the table
+    /// for each key.
+    pub fn keys(&self) -> Keys<'_, V>
+        ensures keys { result ≡ map (λ o. o.0) self.now.objects }
+        ensures rising { IsStrictlySortedBy key_cmp result }
+    {
+        Keys::of(self.lists.rising())
     }
 }

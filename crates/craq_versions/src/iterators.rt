@@ -75,7 +75,7 @@ impl<'a, V> Model for Keys<'a, V> {
 impl<'a, V: Drop> Keys<'a, V> {
     /// Makes the iterator over the keys of these lists, without those that have no versions.
     pub(crate) fn of(lists: Rising<'a, VersionList<V>>) -> Self
-        ensures { result ≡ map (λ o. o.0) (filled shown lists) }
+        ensures { result ≡ map (λ o. o.0) (filled shown lists.entry) }
     {
         Keys { lists }
     }

@@ -22,7 +22,8 @@ from tools import repository, unproved
 from tools.benched import programs, stands_on, text_of
 
 # The words with which each is tried, and the seconds that it may take.
-SMALL, SECONDS = {"joins/join": ["100"], "node/measure": ["single", "100"], "objects/table": ["100"], "wire/proved": ["10"]}, 300
+SMALL, SECONDS = {"joins/join": ["100"], "node/measure": ["single", "100"], "objects/table": ["100"],
+                  "wire/proved": ["10"]}, 300
 
 
 def made(room, program):

@@ -8,12 +8,11 @@ ghost use Rattle.craq_names.specs.Maps.{at_key, key_cmp, put_key};
 ghost use Rattle.craq_key_map.specs.Hashed.{entries_of, hashed, key_of, lent, slot_of, AreHashed};
 ghost use Rattle.craq_key_map.specs.Rising.{lent_least, IsNext};
 
-use crate::Place;
-use crate::Rising;
 use crate::buckets::{Bucket, add, count_going, deal, index_in};
 use crate::chunks::Chunks;
 use crate::layout::Layout;
 use crate::least::{Lent, least_in};
+use crate::{Place, Rising};
 use craq_names::{Copied, Key};
 use std::alloc::{AllocError, Global};
 use std::marker::Model;

@@ -111,7 +111,7 @@ chunks_set {X} cs i c d h at same = record {
       split (set_cases cs i j d e s);
 }
 
-nil_after : {X : Type 0} (xs : List X) → xs ++ [] ≡ xs
+pub nil_after : {X : Type 0} (xs : List X) → xs ++ [] ≡ xs
 nil_after [] = refl
 nil_after (x ∷ xs) = ap (λ ys. x ∷ ys) (nil_after xs)
 
@@ -181,7 +181,7 @@ joined_same [] i c d at is = refl
 joined_same {X} (b ∷ bs) zero c d at is = ap (λ (ys : List X). ys ++ joined bs) (is ∙ ap (λ (v : Vec X Global). v.items) (sym (same_Some b c at)))
 joined_same {X} (b ∷ bs) (suc i) c d at is = ap (λ (ys : List X). b.items ++ ys) (joined_same bs i c d at is)
 
-lt_true : (m n : ℕ) → m < n → nat_lt m n ≡ true
+pub lt_true : (m n : ℕ) → m < n → nat_lt m n ≡ true
 lt_true m n h = elim (nat_lt m n) as (λ b. nat_lt m n ≡ b → b ≡ true) [ true ↦ λ e. refl | false ↦ λ e. absurd (omega (arith, h, ltb-false m n e)) ] refl
 
 -- the last chunk, by its length, has room or not

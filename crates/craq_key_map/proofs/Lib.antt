@@ -3,6 +3,5 @@ pub mod Writes
 pub mod Splitting
 pub mod Sorting
 pub mod Chunking
-pub mod Maps
-pub mod Copied
 pub mod Next
+pub mod Filled

@@ -1,31 +1,35 @@
 -- The least key above another one.
-use Rattle.std.specs.declared.alloc.Global.{Global}
-use Rattle.std.proofs.Common.{◌≡◌, ℕ, ◌+◌, ◌<◌, Bool, true, false, cond, List, [], ◌∷◌, ◌++◌, length, get_or, take, Option, Some, None, Vec, refl, sym, ◌∙◌, ap, subst, append_assoc}
+use Rattle.std.proofs.Common.{◌≡◌, ◌≢◌, ◌⊎◌, inl, inr, ℕ, zero, suc, ◌+◌, ◌<◌, Bool, true, false, cond, List, [], ◌∷◌, ◌++◌, length, get_or, take, drop, Option, Some, None, refl, sym, ◌∙◌, ap, subst, append_assoc, arith}
 use lib.Dec.{T}
-use Rattle.std.specs.Prelude.{◌&&◌}
-use Rattle.std.specs.List.{flat_map}
+use Rattle.std.specs.Prelude.{◌&&◌, slice_get}
+use Rattle.std.specs.List.{Contains}
 use Rattle.std.specs.Ordering.{is_eq, is_lt, eq_by_cmp, ordering_reverse}
 use Rattle.std.specs.declared.cmp.Ordering.{Ordering}
 use Rattle.std.specs.declared.cmp.Ordering.TheVariants.{Less, Equal, Greater}
 use Rattle.std.specs.Cmp.Lexicographic.{nat_list_cmp_total}
 use Rattle.std.specs.FinMap.{entries_sorted, from_entries}
 use Rattle.std.specs.FinMap.Entries.{below_all, is_sorted, same_entries, is_sorted-where_key, find-where_key}
-use Rattle.std.proofs.lemmas.Option.{none-some}
+use Rattle.std.proofs.lemmas.Option.{none-some, same_Some}
 use Rattle.std.proofs.lemmas.List.{take_more}
 use Rattle.craq_names.specs.Maps.{at_key, key_cmp}
-use Rattle.craq_key_map.specs.Hashed.{Bucket, Hashed, all_of, entries_of, hashed}
+use Rattle.craq_key_map.specs.Mapped.{Mapped, entries_of, key_of}
+use Rattle.craq_key_map.specs.declared.index.Slot.{Slot}
 use Rattle.craq_key_map.specs.Rising.{entries_above, is_above, least_of, lesser, IsNext}
-use Rattle.craq_key_map.specs.declared.layout.Layout.{Layout}
 use Rattle.craq_key_map.proofs.Lookups.{at_entries, exact, none_first, own_key, same_key, true_false}
-use Rattle.craq_key_map.proofs.Copied.{all_copied, nil_after}
+use Rattle.craq_key_map.proofs.Chunking.{nil_after}
+use Rattle.craq_key_map.proofs.Splitting.{contains_more}
+
+take_all : {X : Type 0} (xs : List X) → take (length xs) xs ≡ xs
+take_all [] = refl
+take_all (x ∷ xs) = ap (λ ys. x ∷ ys) (take_all xs)
 
 -- the entry is above the last one, and no key between them is among these
-record IsLeastAt {V : Type 0} (last : Option (List ℕ)) (xs : Bucket V) (e : List ℕ × V) : Type 0 where
+record IsLeastAt {V : Type 0} (last : Option (List ℕ)) (xs : Mapped V) (e : List ℕ × V) : Type 0 where
   above : is_above last e.0 ≡ true
   at : at_key xs e.0 ≡ Some e.1
   least : (q : List ℕ) → is_above last q ≡ true → key_cmp q e.0 ≡ Less → at_key xs q ≡ None
 
-abbrev IsLeast : {V : Type 0} → Option (List ℕ) → Bucket V → Option (List ℕ × V) → Type 0
+abbrev IsLeast : {V : Type 0} → Option (List ℕ) → Mapped V → Option (List ℕ × V) → Type 0
 IsLeast last xs None = (q : List ℕ) → is_above last q ≡ true → at_key xs q ≡ None
 IsLeast last xs (Some e) = IsLeastAt last xs e
 
@@ -42,7 +46,7 @@ apart_by f q key holds fails =
       | false ↦ λ e. refl
     ] refl
 
-some_first : {V : Type 0} (q : List ℕ) (xs ys : Bucket V) (v : V) → at_key xs q ≡ Some v → at_key (xs ++ ys) q ≡ Some v
+some_first : {V : Type 0} (q : List ℕ) (xs ys : Mapped V) (v : V) → at_key xs q ≡ Some v → at_key (xs ++ ys) q ≡ Some v
 some_first q [] ys v is = absurd (none-some v is)
 some_first {V} q (e ∷ es) ys v is =
     elim (eq_by_cmp key_cmp q e.0) as (λ b. cond b (Some e.1) (at_key es q) ≡ Some v → cond b (Some e.1) (at_key (es ++ ys) q) ≡ Some v) [
@@ -50,7 +54,7 @@ some_first {V} q (e ∷ es) ys v is =
       | false ↦ λ h. some_first q es ys v h
     ] is
 
-module _ {V : Type 0} (last : Option (List ℕ)) (xs : Bucket V) (e : List ℕ × V) where
+module _ {V : Type 0} (last : Option (List ℕ)) (xs : Mapped V) (e : List ℕ × V) where
   -- a key that is in neither is not in the longer list
   not_more : (q : List ℕ) → at_key xs q ≡ None → eq_by_cmp key_cmp q e.0 ≡ false → at_key (xs ++ e ∷ []) q ≡ None
   not_more q none apart = none_first q xs (e ∷ []) none ∙ ap (λ b. cond b (Some e.1) None) apart
@@ -93,16 +97,16 @@ module _ {V : Type 0} (last : Option (List ℕ)) (xs : Bucket V) (e : List ℕ �
       ] refl
 
 -- more entries
-least_grows : {V : Type 0} (last : Option (List ℕ)) (xs ys : Bucket V) (least : Option (List ℕ × V)) → IsLeast last xs least → IsLeast last (xs ++ ys) (least_of last least ys)
-least_grows {V} last xs [] least h = subst (λ (zs : Bucket V). IsLeast last zs least) (sym (nil_after xs)) h
+least_grows : {V : Type 0} (last : Option (List ℕ)) (xs ys : Mapped V) (least : Option (List ℕ × V)) → IsLeast last xs least → IsLeast last (xs ++ ys) (least_of last least ys)
+least_grows {V} last xs [] least h = subst (λ (zs : Mapped V). IsLeast last zs least) (sym (nil_after xs)) h
 least_grows {V} last xs (e ∷ es) least h =
-    subst (λ (zs : Bucket V). IsLeast last zs (least_of last (lesser last least e) es)) (append_assoc xs (e ∷ []) es) (least_grows last (xs ++ e ∷ []) es (lesser last least e) (grown last xs e least h))
+    subst (λ (zs : Mapped V). IsLeast last zs (least_of last (lesser last least e) es)) (append_assoc xs (e ∷ []) es) (least_grows last (xs ++ e ∷ []) es (lesser last least e) (grown last xs e least h))
 
 both : (a b : Bool) → T a → T b → T (a && b)
 both true b p q = q
 both false b p q = p
 
-below_above : {V : Type 0} (key : List ℕ) (es : Bucket V) → T (below_all key_cmp key (entries_above (Some key) es))
+below_above : {V : Type 0} (key : List ℕ) (es : Mapped V) → T (below_all key_cmp key (entries_above (Some key) es))
 below_above key [] = tt
 below_above key (e ∷ es) =
     elim (is_lt (key_cmp key e.0)) as (λ t. is_lt (key_cmp key e.0) ≡ t → T (below_all key_cmp key (cond t (e ∷ entries_above (Some key) es) (entries_above (Some key) es)))) [
@@ -114,14 +118,14 @@ above_more : (last : Option (List ℕ)) (key q : List ℕ) → is_above last key
 above_more None key q above less = refl
 above_more (Some low) key q above less = ap is_lt (nat_list_cmp_total.trans low key q (lt_of (key_cmp low key) above) less)
 
-found_above : {V : Type 0} (last : Option (List ℕ)) (es : Bucket V) (q : List ℕ) → at_key (entries_above last es) q ≡ cond (is_above last q) (at_key es q) None
+found_above : {V : Type 0} (last : Option (List ℕ)) (es : Mapped V) (q : List ℕ) → at_key (entries_above last es) q ≡ cond (is_above last q) (at_key es q) None
 found_above last es q = find-where_key key_cmp (is_above last) q (λ x e. ap (is_above last) (sym (exact q x e))) es
 
 none_where : {V : Type 0} (o : Option V) (b : Bool) → (b ≡ true → o ≡ None) → cond b o None ≡ None
 none_where o true h = h refl
 none_where o false h = refl
 
-module _ {V : Type 0} (last : Option (List ℕ)) (es : Bucket V) (sorted : T (is_sorted key_cmp es)) where
+module _ {V : Type 0} (last : Option (List ℕ)) (es : Mapped V) (sorted : T (is_sorted key_cmp es)) where
   above_sorted : T (is_sorted key_cmp (entries_above last es))
   above_sorted = is_sorted-where_key key_cmp (is_above last) es sorted
 
@@ -149,7 +153,7 @@ module _ {V : Type 0} (last : Option (List ℕ)) (es : Bucket V) (sorted : T (is
   next_of (Some e) h = first_above e h
 
 -- the least of all entries, in any order, is the least of the sorted ones
-same_least : {V : Type 0} (m : Hashed V) (last : Option (List ℕ)) (least : Option (List ℕ × V)) → IsLeast last (all_of m) least → IsLeast last (entries_of m) least
+same_least : {V : Type 0} (m : Mapped V) (last : Option (List ℕ)) (least : Option (List ℕ × V)) → IsLeast last (m) least → IsLeast last (entries_of m) least
 same_least m last None h = λ q over. at_entries m q ∙ h q over
 same_least m last (Some e) h =
     record {
@@ -158,24 +162,43 @@ same_least m last (Some e) h =
       least = λ q over low. at_entries m q ∙ h.least q over low;
     }
 
--- the least entry of all buckets is the next one
-pub next_found : {V : Type 0} (buckets : List (Vec (List ℕ × V) Global)) (layout : Layout) (n : ℕ) → n ≡ length buckets → (last : Option (List ℕ)) (least : Option (List ℕ × V)) → least ≡ least_of last None (flat_map (λ b. b.items) (take n buckets)) → IsNext (entries_of (hashed buckets layout)) last least
-next_found {V} buckets layout n count last least is =
-    let m = hashed buckets layout in
-    subst (IsNext (entries_of m) last) (sym (is ∙ ap (least_of last None) (all_copied buckets layout n count)))
-    (next_of last (entries_of m) (entries_sorted (from_entries (all_of m))) (least_of last None (all_of m)) (same_least m last (least_of last None (all_of m)) (least_grows last [] (all_of m) None (λ q over. refl))))
+-- the least entry of all is the next one
+pub next_found : {V : Type 0} (m : Mapped V) (n : ℕ) → n ≡ length m → (last : Option (List ℕ)) (least : Option (List ℕ × V)) → least ≡ least_of last None (take n m) → IsNext (entries_of m) last least
+next_found {V} m n count last least is =
+    subst (IsNext (entries_of m) last) (sym (is ∙ ap (λ k. least_of last None (take k m)) count ∙ ap (least_of last None) (take_all m)))
+    (next_of last (entries_of m) (entries_sorted (from_entries m)) (least_of last None m) (same_least m last (least_of last None m) (least_grows last [] m None (λ q over. refl))))
 
 -- the entries of one list after those of another
-pub least_append : {V : Type 0} (last : Option (List ℕ)) (least : Option (List ℕ × V)) (xs ys : Bucket V) → least_of last least (xs ++ ys) ≡ least_of last (least_of last least xs) ys
+pub least_append : {V : Type 0} (last : Option (List ℕ)) (least : Option (List ℕ × V)) (xs ys : Mapped V) → least_of last least (xs ++ ys) ≡ least_of last (least_of last least xs) ys
 least_append last least [] ys = refl
 least_append last least (e ∷ es) ys = least_append last (lesser last least e) es ys
 
--- one more entry of a bucket
-pub least_more : {V : Type 0} (last : Option (List ℕ)) (least now : Option (List ℕ × V)) (b : Bucket V) (i : ℕ) (e : List ℕ × V) → i < length b → e ≡ get_or b i e → now ≡ least_of last least (take i b) → lesser last now e ≡ least_of last least (take (i + 1) b)
+-- one more entry
+pub least_more : {V : Type 0} (last : Option (List ℕ)) (least now : Option (List ℕ × V)) (b : Mapped V) (i : ℕ) (e : List ℕ × V) → i < length b → e ≡ get_or b i e → now ≡ least_of last least (take i b) → lesser last now e ≡ least_of last least (take (i + 1) b)
 least_more {V} last least now b i e low is here =
     ap (λ (o : Option (List ℕ × V)). lesser last o e) here ∙ sym (least_append last least (take i b) (e ∷ [])) ∙ ap (λ (x : List ℕ × V). least_of last least (take i b ++ x ∷ [])) is ∙ ap (least_of last least) (sym (take_more b i e low))
 
 -- without a last key all entries are above
-pub all_above : {V : Type 0} (es : Bucket V) → entries_above None es ≡ es
+pub all_above : {V : Type 0} (es : Mapped V) → entries_above None es ≡ es
 all_above [] = refl
 all_above (e ∷ es) = ap (λ fs. e ∷ fs) (all_above es)
+
+-- the item at an index is the first of those from it on
+pub drop_next : {X : Type 0} (xs : List X) (i : ℕ) (x : X) → slice_get xs i ≡ Some x → drop i xs ≡ x ∷ drop (i + 1) xs
+drop_next [] i x s = absurd (none-some x s)
+drop_next {X} (y ∷ ys) zero x s = ap (λ (z : X). z ∷ ys) (same_Some y x s)
+drop_next (y ∷ ys) (suc i) x s =
+    let same : suc (i + 1) ≡ suc i + 1 = omega arith in
+    drop_next ys i x s ∙ ap (λ n. x ∷ drop n (y ∷ ys)) same
+
+-- no key of one more slot is the one
+pub none_more : {V : Type 0} (m : Mapped V) (slots : List Slot) (i : ℕ) (x : Slot) (hash : ℕ) (key : List ℕ) → i < length slots → x ≡ get_or slots i x → ((place : ℕ) → Contains (take i slots) (record { hash = hash; place = place }) → key_of m place ≢ Some key)
+    → (x.hash ≡ hash → key_of m x.place ≢ Some key) → (place : ℕ) → Contains (take (i + 1) slots) (record { hash = hash; place = place }) → key_of m place ≢ Some key
+none_more m slots i x hash key low is before not_here place has =
+    let y : Slot = record { hash = hash; place = place } in
+    let more : take (i + 1) slots ≡ take i slots ++ x ∷ [] = take_more slots i x low ∙ ap (λ (z : Slot). take i slots ++ z ∷ []) (sym is) in
+    let split : Contains (take i slots) y ⊎ (y ≡ x) → key_of m place ≢ Some key = elim [
+      | inl e ↦ before place e
+      | inr e ↦ λ at. not_here (ap (λ (z : Slot). z.hash) (sym e)) (ap (λ (z : Slot). key_of m z.place) (sym e) ∙ at)
+    ] in
+    split (contains_more (take i slots) x y (subst (λ (zs : List Slot). Contains zs y) more has))

@@ -1,4 +1,4 @@
 pub mod Chunked
-pub mod Hashed
+pub mod Indexed
+pub mod Mapped
 pub mod Rising
-pub mod Splits

@@ -5,7 +5,7 @@ use Rattle.std.specs.Option.{option_map}
 use Rattle.std.specs.Ordering.{is_lt}
 use Rattle.std.specs.FinMap.Entries.{where_key}
 use Rattle.craq_names.specs.Maps.{key_cmp}
-use Rattle.craq_key_map.specs.Hashed.{Bucket}
+use Rattle.craq_key_map.specs.Mapped.{Mapped as Bucket}
 
 -- the key is greater than the last one, if there is a last one
 abbrev pub is_above : Option (List ℕ) → List ℕ → Bool

@@ -55,6 +55,15 @@ impl<X: Drop> Chunks<X> {
         mem::replace(&mut self.chunks[index / CHUNK][index % CHUNK], item)
     }
 
+    /// Makes room for one more item, so that the next `push` allocates nothing. Fails only when out
+    /// of memory; the items are unchanged in either case.
+    pub(crate) fn reserve(&mut self) -> Result<(), AllocError>
+        ensures { self.new ≡ self.old }
+    {
+        make_room(self.alloc, &mut self.chunks)?;
+        reserve_last(&mut self.chunks)
+    }
+
     /// Adds an item at the end. Fails only when out of memory; the items are unchanged on error.
     pub(crate) fn push(&mut self, item: X) -> Result<(), AllocError>
         ensures ok { OnOk result (self.new ≡ self.old ++ item ∷ []) }
@@ -88,6 +97,18 @@ fn make_room<X: Drop>(alloc: Global, chunks: &mut Vec<Vec<X>>) -> Result<(), All
     Ok(())
 }
 
+/// Reserves memory for one more item of the last chunk. Fails only when out of memory; the items are
+/// unchanged in either case.
+fn reserve_last<X: Drop>(chunks: &mut Vec<Vec<X>>) -> Result<(), AllocError>
+    requires chunks { AreChunks chunks.old.items }
+    requires room { HasRoom chunks.old.items }
+    ensures items { joined chunks.new.items ≡ joined chunks.old.items }
+    ensures chunks { AreChunks chunks.new.items }
+{
+    let last = chunks.len() - 1;
+    chunks[last].reserve(1)
+}
+
 /// Adds an item to the last chunk. Fails only when out of memory; the items are unchanged on error.
 fn push_last<X: Drop>(chunks: &mut Vec<Vec<X>>, item: X) -> Result<(), AllocError>
     requires chunks { AreChunks chunks.old.items }
@@ -100,4 +121,15 @@ fn push_last<X: Drop>(chunks: &mut Vec<Vec<X>>, item: X) -> Result<(), AllocErro
     chunks[last].reserve(1)?;
     chunks[last].push_reserved(item);
     Ok(())
+}
+
+impl<K: Drop, T: Drop> Chunks<(K, T)> {
+    /// Replaces the second part of the pair at an index, and returns the one that was there.
+    /// Allocates nothing.
+    pub(crate) fn replace_second(&mut self, index: usize, item: T) -> T
+        requires { index < length self.old }
+        ensures { (e : K × T) → slice_get self.old index ≡ Some e → (result ≡ e.1) × (self.new ≡ slice_set self.old index (e.0, item)) }
+    {
+        mem::replace(&mut self.chunks[index / CHUNK][index % CHUNK].1, item)
+    }
 }

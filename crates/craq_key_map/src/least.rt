@@ -1,7 +1,7 @@
-//! The least key above another one. `rising` calls this.
-ghost use Rattle.std.specs.Prelude.{◌≡◌, ℕ, List, if◌then◌else◌};
+//! The least key above another one. `map` calls this.
+ghost use Rattle.std.specs.Prelude.{◌≡◌};
 ghost use Rattle.std.specs.Option.{option_copied};
-ghost use Rattle.craq_key_map.specs.Rising.{is_above, is_less, least_of, lent_least, lent_pair, lesser};
+ghost use Rattle.craq_key_map.specs.Rising.{is_above, is_less, lent_least, lent_pair, lesser};
 
 use craq_names::Key;
 
@@ -29,7 +29,7 @@ fn is_before<T>(found: Lent<'_, T>, least: Option<Lent<'_, T>>) -> bool
 }
 
 /// Returns `found` if its key is above `last` and less than that of `least`, else `least`.
-fn lesser_of<'a, T>(
+pub(crate) fn lesser_of<'a, T>(
     last: Option<&Key>,
     least: Option<Lent<'a, T>>,
     found: Lent<'a, T>,
@@ -41,20 +41,4 @@ fn lesser_of<'a, T>(
     } else {
         least
     }
-}
-
-/// Returns the entry with the least key above `last`, of those of a bucket and `least`.
-pub(crate) fn least_in<'a, T>(
-    last: Option<&Key>,
-    least: Option<Lent<'a, T>>,
-    bucket: &'a [(Key, T)],
-) -> Option<Lent<'a, T>>
-    ensures { lent_least result ≡ least_of (option_copied last.entry) (lent_least least.entry) bucket.now }
-{
-    let mut least = least;
-    for index in 0..bucket.len() {
-        let (key, item) = &bucket[index];
-        least = lesser_of(last, least, (key, item));
-    }
-    least
 }

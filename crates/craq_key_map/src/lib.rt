@@ -1,14 +1,17 @@
 //! A map from keys to items, by a keyed hash. It grows one bucket at a time. Runs in the program.
 #![tactic(auto)]
 
-mod buckets;
 mod chunks;
+mod entries;
+mod hashing;
+mod index;
 mod layout;
 mod least;
 mod map;
-mod place;
+mod order;
 mod rising;
 
+pub use entries::Entries;
 pub use map::KeyMap;
-pub use place::Place;
+pub use order::sort_by_key;
 pub use rising::Rising;

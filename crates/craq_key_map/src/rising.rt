@@ -1,7 +1,7 @@
 //! `Rising`: the keys of a map with their items, ascending. `map` returns it.
 ghost use Rattle.std.specs.Prelude.{◌≡◌};
 ghost use Rattle.std.specs.Iterator.{YieldsFirstBy, item_count};
-ghost use Rattle.craq_key_map.specs.Hashed.{entries_of};
+ghost use Rattle.craq_key_map.specs.Mapped.{entries_of};
 ghost use Rattle.craq_key_map.specs.Rising.{lent_pair};
 
 use crate::KeyMap;
@@ -21,7 +21,7 @@ pub struct Rising<'a, T> {
 impl<'a, T> Model for Rising<'a, T> {
     ghost use Rattle.std.specs.Prelude.{ℕ, List};
     ghost use Rattle.std.specs.Option.{option_copied};
-    ghost use Rattle.craq_key_map.specs.Hashed.{entries_of};
+    ghost use Rattle.craq_key_map.specs.Mapped.{entries_of};
     ghost use Rattle.craq_key_map.specs.Rising.{entries_above};
 
     ghost Value = { List (List ℕ × T) };

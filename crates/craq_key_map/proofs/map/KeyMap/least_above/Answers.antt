@@ -1,20 +1,21 @@
-use Rattle.std.proofs.Common.{◌≡◌, ◌∙◌, None, ap, arith, length, sym, take}
-use Rattle.std.specs.List.{flat_map}
+use Rattle.std.proofs.Common.{◌≡◌, ◌∙◌, None, arith, length, sym}
 use Rattle.std.specs.Option.{option_copied}
-use Rattle.craq_key_map.specs.Rising.{least_of, lent_least}
-use Rattle.craq_key_map.proofs.Copied.{copied_next}
-use Rattle.craq_key_map.proofs.Next.{least_append, next_found}
+use Rattle.std.proofs.lemmas.Option.{slice_get_within, get_or_from_slice_get}
+use Rattle.craq_key_map.specs.Rising.{lent_least, lent_pair}
+use Rattle.craq_key_map.proofs.Next.{least_more, next_found}
 use Rattle.craq_key_map.proofs.map.KeyMap.least_above.Goals as goal
 
-pub loop-index-preserved : goal.loop-index-preserved
-loop-index-preserved g c =
-    let buckets = c.self.inside.buckets in
-    let last = option_copied c.args.last in
-    let v = c.get.result.now in
-    c.least_in-least.ensures ∙ ap (least_of last (lent_least c.loop-index.least)) c.as_slice.ensures.value ∙ ap (λ o. least_of last o v.items) c.loop-index.invariant
-    ∙ sym (least_append last None (flat_map (λ b. b.items) (take c.loop-index.index buckets)) v.items) ∙ ap (least_of last None) (sym (copied_next buckets c.loop-index.index v c.get.ensures))
+pub loop-place-preserved : goal.loop-place-preserved
+loop-place-preserved g c =
+    let m = c.args.self.now in
+    let i = c.loop-place.place in
+    let e = lent_pair c.entry.result in
+    c.lesser_of-least.ensures
+    ∙ least_more (option_copied c.args.last) None (lent_least c.loop-place.least) m i e (slice_get_within m i e c.entry.ensures) (sym (get_or_from_slice_get m i e e c.entry.ensures)) c.loop-place.invariant
 
 pub returns : goal.returns
 returns g c =
-    let count : c.loop-index.index ≡ length c.self.inside.buckets = omega (arith, c.loop-index-test.false, c.loop-index.auto.index-end, c.self.invariant.1) in
-    rw (← c.self.view_is) (next_found c.self.inside.buckets c.self.inside.layout c.loop-index.index count (option_copied c.args.last) (lent_least c.loop-index.least) c.loop-index.invariant)
+    let k = c.self.inside in
+    let count : c.loop-place.place ≡ length k.items = omega (arith, c.loop-place-test.false, c.loop-place.auto.place-end, c.self.invariant.counted) in
+    let least = rw (← c.self.view_is) at c.loop-place.invariant in
+    rw (← c.self.view_is) (next_found k.items c.loop-place.place count (option_copied c.args.last) (lent_least c.loop-place.least) least)

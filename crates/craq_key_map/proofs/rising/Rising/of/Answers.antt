@@ -1,4 +1,4 @@
-use Rattle.craq_key_map.specs.Hashed.{entries_of}
+use Rattle.craq_key_map.specs.Mapped.{entries_of}
 use Rattle.craq_key_map.proofs.Next.{all_above}
 use Rattle.craq_key_map.proofs.rising.Rising.of.Goals as goal
 

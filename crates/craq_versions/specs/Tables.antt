@@ -73,13 +73,9 @@ Entries V = List (List ℕ × Versions V)
 abbrev pub table_of : {V : Type 0} → Entries V → Table V
 table_of {V} es = record { objects = filled shown es; rooms = map (λ (e : List ℕ × Versions V). (e.0, e.1.room)) es }
 
--- a key with its list
-abbrev pub entry_of : {V : Type 0} → List ℕ × Bor (Versions V) → List ℕ × Versions V
-entry_of p = (p.0, p.1.now)
-
 -- a key with its list's versions
-abbrev pub shown_pair : {V : Type 0} → List ℕ × Bor (Versions V) → List ℕ × Held V
-shown_pair p = (p.0, held_in p.1.now)
+abbrev pub shown_pair : {V : Type 0} → Bor (List ℕ) × Bor (Versions V) → List ℕ × Held V
+shown_pair p = (p.0.now, held_in p.1.now)
 
 abbrev pub shown_key : Bor (List ℕ) → List ℕ
 shown_key key = key.now

@@ -1,51 +1,49 @@
-//! The iterators of a table: the keys that have versions, ascending, with or without the versions.
-//! `table` returns them.
+//! The iterators of a table: the keys that have versions, with them, or ascending without them. `table`
+//! returns them.
 ghost use Rattle.std.specs.Prelude.{◌≡◌, map};
 ghost use Rattle.std.specs.Iterator.{YieldsFirstBy, item_count};
 ghost use Rattle.craq_names.specs.Places.{filled};
-ghost use Rattle.craq_versions.specs.Tables.{entry_of, shown, shown_key, shown_pair};
+ghost use Rattle.craq_versions.specs.Tables.{shown, shown_key, shown_pair};
 
 use crate::VersionList;
-use craq_key_map::Rising;
+use craq_key_map::{Entries, Rising};
 use craq_names::Key;
 use std::marker::Model;
-use std::vec::IntoIter;
 
-/// The keys of a table that have versions, ascending, each with its versions.
+/// The keys of a table that have versions, each with its versions, in the order in which the keys
+/// came. Takes no memory.
 #[derive(Drop)]
 pub struct Objects<'a, V> {
-    lists: IntoIter<(Key, &'a VersionList<V>)>,
+    lists: Entries<'a, VersionList<V>>,
 }
 
 impl<'a, V> Model for Objects<'a, V> {
-    ghost use Rattle.std.specs.Prelude.{ℕ, List, map};
+    ghost use Rattle.std.specs.Prelude.{ℕ, List};
     ghost use Rattle.craq_names.specs.Places.{filled};
-    ghost use Rattle.craq_versions.specs.Tables.{Held, entry_of, shown};
+    ghost use Rattle.craq_versions.specs.Tables.{Held, shown};
 
     ghost Value = { List (List ℕ × Held V) };
 
-    ghost view = { λ s. filled shown (map entry_of s.lists.rest.items) };
+    ghost view = { λ s. filled shown s.lists };
 }
 
 impl<'a, V: Drop> Objects<'a, V> {
     /// Makes the iterator over these lists, without those that have no versions.
-    pub(crate) fn of(lists: Vec<(Key, &'a VersionList<V>)>) -> Self
-        ensures { result ≡ filled shown (map entry_of lists.entry.items) }
+    pub(crate) fn of(lists: Entries<'a, VersionList<V>>) -> Self
+        ensures { result ≡ filled shown lists.entry }
     {
-        Objects {
-            lists: lists.into_iter(),
-        }
+        Objects { lists }
     }
 }
 
 impl<'a, V: Drop> Iterator for Objects<'a, V> {
-    type Item = (Key, &'a VersionList<V>);
+    type Item = (&'a Key, &'a VersionList<V>);
 
     ghost next_gives = { YieldsFirstBy shown_pair (λ s. s) };
 
     ghost remaining = { item_count (λ s. s) };
 
-    fn next(&mut self) -> Option<(Key, &'a VersionList<V>)> {
+    fn next(&mut self) -> Option<(&'a Key, &'a VersionList<V>)> {
         while let Some((key, list)) = self.lists.next() {
             if !list.is_empty() {
                 return Some((key, list));

@@ -1,6 +1,6 @@
 //! The lists of a table, by key. A list without versions only reserves room. `table` calls this.
 ghost use Rattle.std.specs.Prelude.{◌≡◌, ◌≢◌, ℕ, ◌+◌, ◌<◌, ◌≤◌, List, [], ◌∷◌, None, IfOk, IsSome, IsOk, OnOk, OnErr, if◌then◌else◌};
-ghost use Rattle.craq_key_map.specs.Hashed.{entries_of};
+ghost use Rattle.craq_key_map.specs.Mapped.{entries_of};
 ghost use Rattle.craq_names.specs.Maps.{at_key, put_key, same_bytes};
 ghost use Rattle.craq_versions.specs.Versions.{AreVersions, CanPush, CanSettle, CanSettleAs};
 ghost use Rattle.craq_versions.specs.Tables.{table_of, held_at, held_in, only_clean, popped, room_at, pushed, settled, settled_as, KeepsRoom, KeepsOthersRoom};

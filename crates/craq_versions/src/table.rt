@@ -4,6 +4,7 @@ ghost use Rattle.std.specs.Option.{option_map};
 ghost use Rattle.std.specs.List.{AllByRecursion};
 ghost use Rattle.std.specs.List.Sorted.{IsStrictlySortedBy};
 ghost use Rattle.craq_names.specs.Maps.{at_key, key_cmp, put_key, same_bytes};
+ghost use Rattle.craq_key_map.specs.Mapped.{AreEntries};
 ghost use Rattle.craq_versions.specs.Versions.{AreVersions, CanPush, CanSettle, CanSettleAs};
 ghost use Rattle.craq_versions.specs.Tables.{held_at, held_in, only_clean, popped, room_at, pushed, settled, settled_as, KeepsRoom, KeepsOthersRoom};
 
@@ -25,7 +26,7 @@ pub struct ObjectTable<V> {
 }
 
 impl<V> Model for ObjectTable<V> {
-    ghost use Rattle.craq_key_map.specs.Hashed.{entries_of};
+    ghost use Rattle.craq_key_map.specs.Mapped.{entries_of};
     ghost use Rattle.craq_versions.specs.Tables.{Table, table_of};
 
     ghost Value = { Table V };
@@ -135,13 +136,13 @@ impl<V: Drop> ObjectTable<V> {
         }
     }
 
-    /// Iterates over the keys that have versions, ascending, each with its versions. Sorts copies of
-    /// the keys. Fails only when out of memory.
-    pub fn iter(&self) -> Result<Objects<'_, V>, AllocError>
-        ensures objects { IfOk result (λ objects. objects ≡ self.now.objects) }
-        ensures rising { IfOk result (λ objects. IsStrictlySortedBy key_cmp (map (λ o. o.0) objects)) }
+    /// Iterates over the keys that have versions, in the order in which they came, each with its
+    /// versions. Allocates nothing.
+    pub fn iter(&self) -> Objects<'_, V>
+        ensures objects { AreEntries result self.now.objects }
+        ensures rising { IsStrictlySortedBy key_cmp (map (λ o. o.0) self.now.objects) }
     {
-        Ok(Objects::of(self.lists.sorted()?))
+        Objects::of(self.lists.iter())
     }
 
     /// Iterates over the keys that have versions, ascending. Allocates nothing, and scans the table

@@ -1,6 +1,6 @@
 use Rattle.std.proofs.Common.{ap, sym}
 use Rattle.std.specs.Prelude.{is_some}
-use Rattle.craq_key_map.specs.Hashed.{entries_of}
+use Rattle.craq_key_map.specs.Mapped.{entries_of}
 use Rattle.craq_versions.proofs.Taken.{was_none}
 use Rattle.craq_versions.proofs.Written.{none_first}
 use Rattle.craq_versions.proofs.lists.place.Goals as goal

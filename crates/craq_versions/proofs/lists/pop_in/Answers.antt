@@ -1,5 +1,5 @@
 use Rattle.std.proofs.Common.{arith, refl}
-use Rattle.craq_key_map.specs.Hashed.{entries_of}
+use Rattle.craq_key_map.specs.Mapped.{entries_of}
 use Rattle.craq_versions.proofs.Taken.{put_back, rise, was, was_none}
 use Rattle.craq_versions.proofs.Written.{held_popped, none_popped, room_old, rooms_kept}
 use Rattle.craq_versions.proofs.lists.pop_in.Goals as goal

@@ -1,6 +1,6 @@
 use Rattle.std.proofs.Common.{arith, refl, rules, sym}
 use Rattle.std.proofs.lemmas.Result.{on_ok_weaker, on_err_weaker}
-use Rattle.craq_key_map.specs.Hashed.{entries_of}
+use Rattle.craq_key_map.specs.Mapped.{entries_of}
 use Rattle.craq_versions.proofs.Taken.{put_back, rise, was, was_none}
 use Rattle.craq_versions.proofs.Written.{first_pushed, held_versions, no_list_room, none_first, objects_pushed, objects_stay, others_kept, room_here, room_old}
 use Rattle.craq_versions.proofs.lists.push_in.Goals as goal

@@ -1,8 +1,8 @@
 use Rattle.std.proofs.Common.{ap, sym}
 use Rattle.std.specs.Prelude.{is_some}
 use Rattle.std.proofs.lemmas.Result.{on_ok_weaker}
-use Rattle.craq_key_map.specs.Hashed.{entries_of}
-use Rattle.craq_key_map.proofs.Maps.{either}
+use Rattle.craq_key_map.specs.Mapped.{entries_of}
+use Rattle.craq_key_map.proofs.Splitting.{either}
 use Rattle.craq_versions.specs.Tables.{table_of}
 use Rattle.craq_versions.proofs.Taken.{keeps_room, put_found, rise, was_none}
 use Rattle.craq_versions.proofs.Written.{no_list_room, objects_placed, rooms_kept, written_put}

@@ -1,7 +1,7 @@
 use Rattle.std.proofs.Common.{ap}
 use Rattle.std.proofs.lemmas.Result.{on_ok_weaker, on_err_weaker}
-use Rattle.craq_key_map.specs.Hashed.{entries_of}
-use Rattle.craq_key_map.proofs.Maps.{either}
+use Rattle.craq_key_map.specs.Mapped.{entries_of}
+use Rattle.craq_key_map.proofs.Splitting.{either}
 use Rattle.craq_versions.specs.Tables.{table_of}
 use Rattle.craq_versions.proofs.Taken.{keeps_others, rise}
 use Rattle.craq_versions.proofs.Written.{objects_more, others_kept, written_put}

@@ -1,6 +1,6 @@
 use Rattle.std.proofs.Common.{arith}
 use Rattle.std.proofs.lemmas.Result.{on_ok_weaker}
-use Rattle.craq_key_map.specs.Hashed.{entries_of}
+use Rattle.craq_key_map.specs.Mapped.{entries_of}
 use Rattle.craq_versions.proofs.Taken.{put_back, rise, was}
 use Rattle.craq_versions.proofs.Written.{objects_stay, rooms_kept, room_here, room_old}
 use Rattle.craq_versions.proofs.lists.reserve_in.Goals as goal

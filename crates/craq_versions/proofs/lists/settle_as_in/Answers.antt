@@ -1,4 +1,4 @@
-use Rattle.craq_key_map.specs.Hashed.{entries_of}
+use Rattle.craq_key_map.specs.Mapped.{entries_of}
 use Rattle.craq_versions.proofs.Taken.{put_back, rise, was, was_none}
 use Rattle.craq_versions.proofs.Written.{settles_as_in, none_settles_as, objects_settled_as, others_kept, versions_of_held}
 use Rattle.craq_versions.proofs.lists.settle_as_in.Goals as goal

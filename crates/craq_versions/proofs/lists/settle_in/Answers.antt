@@ -1,5 +1,5 @@
 use Rattle.std.proofs.Common.{arith}
-use Rattle.craq_key_map.specs.Hashed.{entries_of}
+use Rattle.craq_key_map.specs.Mapped.{entries_of}
 use Rattle.craq_versions.proofs.Taken.{put_back, rise, was, was_none}
 use Rattle.craq_versions.proofs.Written.{settles_in, objects_settled, none_settles, rooms_kept, room_old}
 use Rattle.craq_versions.proofs.lists.settle_in.Goals as goal

@@ -1,5 +1,5 @@
 use Rattle.std.proofs.Common.{sym, ◌∙◌}
-use Rattle.craq_key_map.specs.Hashed.{entries_of}
+use Rattle.craq_key_map.specs.Mapped.{entries_of}
 use Rattle.craq_versions.proofs.Taken.{rise, was, was_none}
 use Rattle.craq_versions.proofs.Written.{none_shown, empty_shown, shown_found, clash}
 use Rattle.craq_versions.proofs.table.ObjectTable.list.Goals as goal

@@ -1,5 +1,5 @@
 use Rattle.std.proofs.Common.{refl}
-use Rattle.craq_key_map.specs.Hashed.{entries_of}
+use Rattle.craq_key_map.specs.Mapped.{entries_of}
 use Rattle.craq_versions.proofs.Taken.{rise}
 use Rattle.craq_versions.proofs.Written.{rising_keys}
 use Rattle.craq_versions.proofs.table.ObjectTable.pop.Goals as goal

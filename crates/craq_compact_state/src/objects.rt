@@ -3,14 +3,16 @@ ghost use Rattle.std.specs.Prelude.{◌≡◌, ◌≤◌, ℕ, List, [], T, IfOk
 ghost use Rattle.std.specs.List.{AllByRecursion};
 ghost use Rattle.std.specs.FinMap.Entries.{is_sorted};
 ghost use Rattle.craq_names.specs.Maps.{key_cmp, put_key, same_bytes};
+ghost use Rattle.craq_names.specs.Places.{filled};
 ghost use Rattle.craq_commands.specs.Objects.{object_of, set_object};
 ghost use Rattle.craq_versions.specs.Versions.{versions_settled};
 ghost use Rattle.craq_compact_state.specs.declared.value_locations.ValueLocation.TheVariants.{Settled};
-ghost use Rattle.craq_compact_state.specs.Placed.{objects_of, later_of, versions_of, IsPlaced, SettlesNext};
+ghost use Rattle.craq_compact_state.specs.Placed.{objects_of, later_of, shown, versions_of, IsPlaced, SettlesNext};
 
 use crate::value_locations::{ValueLocation, settled_object, settled_of};
+use craq_key_map::sort_by_key;
 use craq_names::{Copied, Items, Key, Value, Version};
-use craq_versions::ObjectTable;
+use craq_versions::{ObjectTable, Objects};
 use std::alloc::{AllocError, Global};
 
 /// Returns an object's settled version and value; version 0 and no bytes if it is absent. Allocates
@@ -61,20 +63,35 @@ fn put_object(
     table.put_clean(key, version, ValueLocation::Settled(value))
 }
 
+/// Copies the settled objects, in the order in which they come. Fails only when out of memory.
+fn copy_settled(
+    alloc: Global,
+    objects: Objects<'_, ValueLocation>,
+) -> Result<Vec<(Key, (Version, Value))>, AllocError>
+    ensures { IfOk result (λ copies. copies.items ≡ filled shown objects) }
+{
+    let mut copies = Vec::new(alloc);
+    for (key, list) in objects {
+        if let Some((version, value)) = settled_of(list) {
+            copies.push((key.copied(alloc)?, (version, value.copied(alloc)?)))?;
+        }
+    }
+    Ok(copies)
+}
+
 /// Copies the objects, sorted by key. Fails only when out of memory.
+///
+/// Each object is visited once, in the order in which its key came. The copies are sorted, since
+/// they stand close together in memory.
 pub fn objects_copied(
     alloc: Global,
     table: &ObjectTable<ValueLocation>,
 ) -> Result<Items<(Key, (Version, Value))>, AllocError>
     ensures { IfOk result (λ objects. objects ≡ objects_of table.now) }
 {
-    let mut objects = Vec::new(alloc);
-    for (key, list) in table.iter()? {
-        if let Some((version, value)) = settled_of(list) {
-            objects.push((key, (version, value.copied(alloc)?)))?;
-        }
-    }
-    Ok(Items::of(objects))
+    let mut copies = copy_settled(alloc, table.iter())?;
+    sort_by_key(&mut copies);
+    Ok(Items::of(copies))
 }
 
 /// Moves the objects, sorted by key, into a table. Fails only when out of memory.

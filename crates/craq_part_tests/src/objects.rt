@@ -210,8 +210,10 @@ fn print_keys<R: Print>(rt: &R, table: &ObjectTable<Value>) -> io::Result<()> {
 
 /// Prints the versions of each key of a table.
 fn print_objects<R: Print>(rt: &R, table: &ObjectTable<Value>) -> io::Result<()> {
-    for (_, list) in table.iter()? {
-        print_ends(rt, list)?;
+    for key in table.keys() {
+        if let Some(list) = table.list(key) {
+            print_ends(rt, list)?;
+        }
     }
     Ok(())
 }

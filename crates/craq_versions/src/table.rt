@@ -18,7 +18,8 @@ use std::alloc::{AllocError, Global};
 use std::marker::Model;
 
 /// A node's versions of the objects of a chain, by key, each version with a held item. A key for
-/// which only room was reserved has an empty list, which no call returns.
+/// which only room was reserved has an empty list, which no call returns. Where 2^32 - 1 keys have
+/// lists, one more counts as out of memory.
 #[derive(Drop)]
 pub struct ObjectTable<V> {
     lists: Lists<V>,

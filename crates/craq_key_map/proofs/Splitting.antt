@@ -1,7 +1,7 @@
 -- A bucket of an index is written, or split.
 use Rattle.std.specs.declared.alloc.Global.{Global}
 use Rattle.std.proofs.Common.{◌≡◌, ◌≢◌, ◌⊎◌, inl, inr, ℕ, zero, suc, ◌+◌, ◌-◌, ◌*◌, ◌/◌, ◌%◌, ◌<◌, ◌≤◌, Bool, true, false, cond, List, [], ◌∷◌, ◌++◌, map, length, set, Option, Some, None, Vec, refl, sym, ◌∙◌, ap, subst, arith, length-set, length-append, eq-eqb}
-use Rattle.std.specs.Prelude.{slice_get, nat_lt, not, unwrap_or, ◌==◌, OnOk, OnErr, Result, Ok, Err}
+use Rattle.std.specs.Prelude.{slice_get, nat_lt, not, unwrap_or, OnOk, OnErr, Result, Ok, Err}
 use Rattle.std.specs.List.{filter, Contains}
 use Rattle.std.specs.Option.{option_map}
 use Rattle.std.proofs.Math.Nat.{add-mul, mul-add}

@@ -1,6 +1,6 @@
 -- The places of items, in buckets by the hashes of their keys.
 use Rattle.std.specs.declared.alloc.Global.{Global}
-use Rattle.std.specs.Prelude.{◌≡◌, ℕ, ◌+◌, ◌-◌, ◌≤◌, ◌%◌, ◌==◌, nat_lt, not, if◌then◌else◌, Bool, List, [], map, length, Vec, slice_get, unwrap_or}
+use Rattle.std.specs.Prelude.{ℕ, ◌+◌, ◌-◌, ◌≤◌, ◌%◌, ◌==◌, nat_lt, not, if◌then◌else◌, Bool, List, [], map, length, Vec, slice_get, unwrap_or}
 use Rattle.std.specs.List.{filter, Contains}
 use Rattle.craq_key_map.specs.declared.layout.Layout.{Layout}
 use Rattle.craq_key_map.specs.declared.index.Slot.{Slot}

@@ -1,7 +1,6 @@
 //! `Index`: the places of items by the hashes of their keys. `map` calls this.
 ghost use Rattle.std.specs.Prelude.{◌≡◌, ◌+◌, ◌<◌, ◌≤◌, ◌^◌, [], ◌∷◌, ◌++◌, IfOk, OnOk, OnErr, length};
-ghost use Rattle.std.specs.List.{filter, AllByRecursion};
-ghost use Rattle.craq_key_map.specs.Indexed.{indexed, slots_of, slots_going, slots_staying, Keeps, Knows};
+ghost use Rattle.craq_key_map.specs.Indexed.{slots_of, slots_going, slots_staying, Keeps, Knows};
 
 use crate::chunks::Chunks;
 use crate::layout::Layout;
@@ -10,6 +9,9 @@ use std::marker::Model;
 
 /// The number of buckets of an index with its first item.
 const FIRST_BUCKETS: usize = 64;
+
+/// The number of slots by which a full bucket grows.
+const MORE_SLOTS: usize = 4;
 
 /// The hash of a key, and the place of its item.
 #[derive(Clone, Copy, Drop)]
@@ -57,7 +59,9 @@ fn add_to(bucket: &mut Bucket, slot: Slot) -> Result<(), AllocError>
     ensures ok { OnOk result (bucket.new.items ≡ bucket.old.items ++ slot ∷ []) }
     ensures err { OnErr result (bucket.new.items ≡ bucket.old.items) }
 {
-    bucket.reserve(1)?;
+    if bucket.len() == bucket.capacity() {
+        bucket.reserve_exact(MORE_SLOTS)?;
+    }
     bucket.push_reserved(slot);
     Ok(())
 }

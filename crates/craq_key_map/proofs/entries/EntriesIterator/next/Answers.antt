@@ -1,4 +1,3 @@
-use Rattle.std.proofs.Common.{◌∙◌}
 use Rattle.craq_key_map.specs.Rising.{lent_pair}
 use Rattle.craq_key_map.proofs.Next.{drop_next}
 use Rattle.craq_key_map.proofs.entries.EntriesIterator.next.Goals as goal

@@ -1,4 +1,4 @@
-use Rattle.std.proofs.Common.{◌≡◌, ◌≤◌, ◌∙◌, arith, length, sym}
+use Rattle.std.proofs.Common.{◌≤◌, arith, length, sym}
 use Rattle.craq_key_map.specs.Indexed.{indexed}
 use Rattle.craq_key_map.specs.declared.layout.Layout.{Layout}
 use Rattle.craq_key_map.proofs.Splitting.{nothing_known, same_length}

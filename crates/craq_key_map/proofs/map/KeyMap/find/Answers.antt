@@ -1,7 +1,6 @@
 use Rattle.std.proofs.Common.{subst, sym}
 use Rattle.std.specs.List.{Contains}
 use Rattle.craq_key_map.specs.Indexed.{Knows}
-use Rattle.craq_key_map.specs.declared.index.Slot.{Slot}
 use Rattle.craq_key_map.proofs.Writes.{absent_of, none_weaker}
 use Rattle.craq_key_map.proofs.map.KeyMap.find.Goals as goal
 

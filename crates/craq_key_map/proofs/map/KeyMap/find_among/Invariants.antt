@@ -1,4 +1,4 @@
-use Rattle.std.proofs.Common.{◌≡◌, ◌≢◌, ℕ, Some, take}
+use Rattle.std.proofs.Common.{◌≢◌, ℕ, Some, take}
 use Rattle.std.specs.List.{Contains}
 use Rattle.craq_key_map.specs.Mapped.{key_of}
 use Rattle.craq_key_map.proofs.map.KeyMap.find_among.Given as goal

@@ -1,4 +1,4 @@
-use Rattle.std.proofs.Common.{subst, sym, ◌∙◌}
+use Rattle.std.proofs.Common.{subst, sym}
 use Rattle.craq_key_map.specs.Mapped.{AreDistinct}
 use Rattle.craq_key_map.proofs.map.KeyMap.iter.Goals as goal
 

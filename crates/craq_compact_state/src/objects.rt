@@ -68,7 +68,7 @@ fn copy_settled(
     alloc: Global,
     objects: Objects<'_, ValueLocation>,
 ) -> Result<Vec<(Key, (Version, Value))>, AllocError>
-    ensures { IfOk result (λ copies. copies.items ≡ filled shown objects) }
+    ensures { IfOk result (λ copies. copies.items ≡ filled shown objects.entry) }
 {
     let mut copies = Vec::new(alloc);
     for (key, list) in objects {

@@ -1,4 +1,4 @@
-use Rattle.std.proofs.Common.{subst, sym}
+use Rattle.std.proofs.Common.{◌∙◌, subst, sym}
 use Rattle.craq_names.specs.Places.{filled}
 use Rattle.craq_key_map.specs.Mapped.{AreDistinct, AreEntries}
 use Rattle.craq_key_map.proofs.Filled.{distinct_filled, entries_filled, sorted_filled}
@@ -13,4 +13,4 @@ returns c =
     let m = c.args.table.now.objects in
     let all = entries_filled shown c.iter.result m c.iter.ensures.rising c.iter.ensures.objects in
     let copies = subst (λ es. AreEntries es (filled shown m)) (sym c.in_ok-copies.ensures) all in
-    sorted_filled shown m c.in_ok-copies.copies.items c.sort_by_key.new.entries.items c.iter.ensures.rising copies c.sort_by_key.ensures.sorted c.sort_by_key.ensures.same
+    c.of.ensures ∙ sorted_filled shown m c.in_ok-copies.copies.items c.sort_by_key.new.entries.items c.iter.ensures.rising copies c.sort_by_key.ensures.sorted c.sort_by_key.ensures.same

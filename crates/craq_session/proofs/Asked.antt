@@ -1,22 +1,23 @@
--- A call that was asked, by its immediate outcome.
-use Rattle.std.proofs.Common.{◌≡◌, None, Some, Ok, Err, subst, sym}
+-- A call that was asked, by its outcome at once or by a completion.
+use Rattle.std.proofs.Common.{◌≡◌, Option, Result, subst, sym}
+use Rattle.craq_completions.specs.declared.token.Token.{Token}
 use Rattle.craq_names.specs.declared.refusal.Refusal.{Refusal}
 use Rattle.craq_seat.specs.Calls.{Called}
-use Rattle.craq_session.specs.Asking.{IsAsked, MayHaveAny, Submitting}
+use Rattle.craq_session.specs.Asking.{Finishing, IsAsked, IsFinished, IsOutcome, IsRefusedAtOnce, IsSubmitted, Submitting, called_by}
 use Rattle.craq_session.specs.Turns.{Refusing}
 use Rattle.craq_session.specs.declared.connection_state.Phase.{Phase}
 use Rattle.craq_session.specs.declared.connection_state.Phase.TheVariants.{Waits}
 use Rattle.craq_session.specs.declared.call_request.CallRequest.{CallRequest}
 
-module _ (refuses : Refusing) (submits : Submitting) (phase : Phase) (q : CallRequest) (is : phase ≡ Waits q) where
-  -- a completion will come
-  pub asked_and_waits : submits q None → MayHaveAny refuses q → IsAsked refuses submits phase None
-  asked_and_waits so may = subst (λ (x : Phase). IsAsked refuses submits x None) (sym is) (so, may)
+module _ {T R : Type 0} (finishes : Finishing T R) (phase : Phase) (q : CallRequest) (is : phase ≡ Waits q) (old new : T) where
+  -- it was submitted, and came back at once or not
+  pub asked : (refuses : Refusing) (submits : Token → Submitting T R) (token made : Token) (came : Option (Result Called Refusal)) → made ≡ token
+      → IsSubmitted (submits made) finishes q old came new → IsRefusedAtOnce refuses q came → IsAsked refuses (called_by submits finishes token) phase old came new
+  asked refuses submits token made came same submitted may =
+      subst (λ (x : Phase). IsAsked refuses (called_by submits finishes token) x old came new) (sym is)
+      (subst (λ (x : Token). IsSubmitted (submits x) finishes q old came new) same submitted, may)
 
-  -- its receipt came
-  pub asked_and_answered : (c : Called) → submits q (Some (Ok c)) → MayHaveAny refuses q → IsAsked refuses submits phase (Some (Ok c))
-  asked_and_answered c so may = subst (λ (x : Phase). IsAsked refuses submits x (Some (Ok c))) (sym is) (so, may)
-
-  -- it is refused
-  pub asked_and_refused : (e : Refusal) → submits q (Some (Err e)) → refuses q.node q.pass q.ask e → IsAsked refuses submits phase (Some (Err e))
-  asked_and_refused e so may = subst (λ (x : Phase). IsAsked refuses submits x (Some (Err e))) (sym is) (so, may)
+  -- its completion came
+  pub finished : (reply : Result R Refusal) (outcome : Result Called Refusal) → IsFinished finishes q reply old outcome new
+      → IsOutcome finishes phase reply old outcome new
+  finished reply outcome so = subst (λ (x : Phase). IsOutcome finishes x reply old outcome new) (sym is) so

@@ -2,5 +2,6 @@ pub mod Asked
 pub mod Completions
 pub mod ConnectionStates
 pub mod Halves
+pub mod Receipts
 pub mod Turning
 pub mod TwoHalves

@@ -1,5 +1,6 @@
--- A call that is asked and whose reply may come later, and its immediate outcome.
-use Rattle.std.specs.Prelude.{◌≡◌, Option, None, Some, Result, Ok, Err}
+-- A call that a session submits, and its outcome, which comes at once or later.
+use Rattle.std.specs.Prelude.{◌≡◌, Option, None, Some, Result, Ok, Err, IfErr}
+use Rattle.craq_completions.specs.declared.token.Token.{Token}
 use Rattle.craq_names.specs.declared.refusal.Refusal.{Refusal}
 use Rattle.craq_names.specs.declared.refusal.Refusal.TheVariants.{Closed}
 use Rattle.craq_model.specs.declared.ask.Ask.{Ask}
@@ -14,25 +15,24 @@ use Rattle.craq_session.specs.declared.call_request.CallRequest.{CallRequest}
 abbrev pub MayHaveAny : Refusing → CallRequest → Type 0
 MayHaveAny refuses q = (e : Refusal) → CanRefuse q.ask e → refuses q.node q.pass q.ask e
 
--- the calls that were submitted, each with its immediate outcome
-abbrev pub Submitting : Type 1
-Submitting = CallRequest → Option (Result Called Refusal) → Type 0
+-- calls that were submitted in sessions: the session before, the request, its reply or refusal at once, if there was one, and the
+-- session after
+abbrev pub Submitting : Type 0 → Type 0 → Type 1
+Submitting T R = T → CallRequest → Option (Result R Refusal) → T → Type 0
 
--- the immediate outcome of a call that was asked: its receipt, its refusal, or nothing, where a completion will come
-abbrev pub at_once : Result (Option Called) Refusal → Option (Result Called Refusal)
+-- calls that were finished in sessions: the session before, the request, the reply, the outcome, and the session after
+abbrev pub Finishing : Type 0 → Type 0 → Type 1
+Finishing T R = T → CallRequest → R → Result Called Refusal → T → Type 0
+
+-- the token of the call of a request handler, which has at most one under way
+abbrev pub only_token : Token
+only_token = record { connection = 0; call = 0 }
+
+-- the immediate reply to a call that was submitted: it, a refusal, or nothing, where a completion will come
+abbrev pub at_once : {R : Type 0} → Result (Option R) Refusal → Option (Result R Refusal)
 at_once (Ok None) = None
-at_once (Ok (Some c)) = Some (Ok c)
+at_once (Ok (Some reply)) = Some (Ok reply)
 at_once (Err e) = Some (Err e)
-
--- a call of which this came at once: it is refused as it may be; or it may be refused with whatever an ask of its kind may be
-abbrev pub IsRefusedAtOnce : Refusing → CallRequest → Option (Result Called Refusal) → Type 0
-IsRefusedAtOnce refuses q (Some (Err e)) = refuses q.node q.pass q.ask e
-IsRefusedAtOnce refuses q came = MayHaveAny refuses q
-
--- the call that is under way was asked, and had this immediate outcome; where none is under way none was asked, and nothing came
-abbrev pub IsAsked : Refusing → Submitting → Phase → Option (Result Called Refusal) → Type 0
-IsAsked refuses submits (phases.Waits q) came = submits q came × IsRefusedAtOnce refuses q came
-IsAsked refuses submits phase came = came ≡ None
 
 -- a call of this ask that came back refused is refused just so, where such an ask may be refused so; else what came back is
 -- another call's, and it is refused as Closed
@@ -41,7 +41,48 @@ pub record IsRefusedAs (ask : Ask) (came reported : Refusal) : Type 0 where
   pub closed : ¬ (CanRefuse ask came) → reported ≡ Closed
   pub can : CanRefuse ask reported
 
--- the outcome of a call by its completion: the receipt in it, or a refusal that this request can produce
-abbrev pub IsOutcomeOf : CallRequest → Result Called Refusal → Result Called Refusal → Type 0
-IsOutcomeOf q (Ok c) outcome = outcome ≡ Ok c
-IsOutcomeOf q (Err came) outcome = (reported : Refusal) × (outcome ≡ Err reported) × IsRefusedAs q.ask came reported
+-- the outcome of a call by its completion: the session finished the call of the reply; or nothing happened in it, and the outcome is a
+-- refusal that this request can produce
+abbrev pub IsFinished : {T R : Type 0} → Finishing T R → CallRequest → Result R Refusal → T → Result Called Refusal → T → Type 0
+IsFinished finishes q (Ok reply) old outcome new = finishes old q reply outcome new × IfErr outcome (λ e. e ≡ Closed)
+IsFinished finishes q (Err came) old outcome new = (reported : Refusal) × (outcome ≡ Err reported) × IsRefusedAs q.ask came reported × (new ≡ old)
+
+-- the outcome of a call by its immediate reply: the session finished the call of the reply; or it is the refusal
+abbrev pub IsFinishedAtOnce : {T R : Type 0} → Finishing T R → CallRequest → Result R Refusal → T → Result Called Refusal → T → Type 0
+IsFinishedAtOnce finishes q (Ok reply) old outcome new = finishes old q reply outcome new
+IsFinishedAtOnce finishes q (Err e) old outcome new = (outcome ≡ Err e) × (new ≡ old)
+
+-- the call was submitted in the session; and it has this outcome at once, or a completion will come
+abbrev pub IsSubmitted : {T R : Type 0} → Submitting T R → Finishing T R → CallRequest → T → Option (Result Called Refusal) → T → Type 0
+IsSubmitted submits finishes q old None new = submits old q None new
+IsSubmitted {T} {R} submits finishes q old (Some outcome) new =
+    (came : Result R Refusal) × (mid : T) × submits old q (Some came) mid × IsFinishedAtOnce finishes q came mid outcome new
+
+-- calls that were submitted in sessions: the request, the session before, the immediate outcome, if there was one, and the session after
+abbrev pub Calling : Type 0 → Type 1
+Calling T = CallRequest → T → Option (Result Called Refusal) → T → Type 0
+
+-- the calls that a backend takes under a token
+abbrev pub called_by : {T R : Type 0} → (Token → Submitting T R) → Finishing T R → Token → Calling T
+called_by submits finishes token = IsSubmitted (submits token) finishes
+
+-- a call with this immediate outcome: it is refused as it may be; or it may be refused with whatever an ask of its kind may be
+abbrev pub IsRefusedAtOnce : Refusing → CallRequest → Option (Result Called Refusal) → Type 0
+IsRefusedAtOnce refuses q (Some (Err e)) = refuses q.node q.pass q.ask e
+IsRefusedAtOnce refuses q came = MayHaveAny refuses q
+
+-- the call that is under way was submitted, and had this immediate outcome; where none is under way none was submitted, and nothing came
+abbrev pub IsAsked : {T : Type 0} → Refusing → Calling T → Phase → T → Option (Result Called Refusal) → T → Type 0
+IsAsked refuses calls (phases.Waits q) old came new = calls q old came new × IsRefusedAtOnce refuses q came
+IsAsked refuses calls phase old came new = (came ≡ None) × (new ≡ old)
+
+-- the outcome of the call that is under way by its completion; where none is under way nothing happened in the session
+abbrev pub IsOutcome : {T R : Type 0} → Finishing T R → Phase → Result R Refusal → T → Result Called Refusal → T → Type 0
+IsOutcome finishes (phases.Waits q) reply old outcome new = IsFinished finishes q reply old outcome new
+IsOutcome finishes phase reply old outcome new = new ≡ old
+
+-- the call of a request in a session, from its submission to its outcome, which came at once or by a completion
+pub data HasCalled {T R : Type 0} (submits : Submitting T R) (finishes : Finishing T R) (q : CallRequest) (old : T) (outcome : Result Called Refusal) (new : T) : Type 0 where
+  directly : IsSubmitted submits finishes q old (Some outcome) new → HasCalled submits finishes q old outcome new
+  by_completion : (mid : T) (reply : Result R Refusal) → IsSubmitted submits finishes q old None mid → IsFinished finishes q reply mid outcome new
+      → HasCalled submits finishes q old outcome new

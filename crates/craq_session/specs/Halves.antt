@@ -1,5 +1,5 @@
 -- The two halves of a turn whose call comes back later.
-use Rattle.std.specs.Prelude.{◌≡◌, ◌⊎◌, ◌↔◌, ◌<◌, ◌≤◌, ℕ, Bool, List, Result, Ok, Err, length, vec_len, vec_capacity}
+use Rattle.std.specs.Prelude.{◌≡◌, ◌⊎◌, ◌↔◌, ◌<◌, ◌≤◌, ◌++◌, ◌∷◌, [], ℕ, Bool, List, Result, Ok, Err, length, vec_len, vec_capacity}
 use Rattle.craq_names.specs.declared.refusal.Refusal.{Refusal}
 use Rattle.craq_names.specs.declared.refusal.Refusal.TheVariants.{Closed, Memory}
 use Rattle.craq_pending_calls.specs.Calls.{IsCallOf}
@@ -15,6 +15,7 @@ use Rattle.craq_session.specs.declared.call_request.Demand.{Demand}
 use Rattle.craq_session.specs.declared.call_request.Demand.TheVariants as demands
 use Rattle.craq_session.specs.declared.call_request.Begun.{Begun}
 use Rattle.craq_session.specs.declared.call_request.Begun.TheVariants as begun
+use Rattle.craq_session.specs.Asking.{Finishing, HasCalled, Submitting}
 use Rattle.craq_session.specs.Turns.{message_of, kept, name_of, for_memory, Refusing, IsAnswered, IsTurn}
 
 -- the message that asks for this call
@@ -73,11 +74,22 @@ IsClosed q (Ok c) = IsAnothers q c
 abbrev pub tells_none : List ℕ → Type 0
 tells_none text = ⊥
 
+-- the receipt that came in the turn of a call is that of the call's outcome
+abbrev pub HasOwnReceipt : Result Called Refusal → List Called → List Called → Type 0
+HasOwnReceipt outcome old new = (c : Called) → new ≡ old ++ c ∷ [] → outcome ≡ Ok c
+
 -- the second half of a turn: the reply is that of the call that came back, or its refusal
 pub record EndsTurn (q : CallRequest) (outcome : Result Called Refusal) (old : List Called) (reported : ClientReply) (new : List Called) : Type 0 where
   pub answered : IsAnswered tells_none (λ node pass ask e. RefusesCall q outcome e) old (asked_by q) reported new
   pub closed : (reported ≡ replies.Refused Closed) ↔ IsClosed q outcome
+  pub own : HasOwnReceipt outcome old new
 
 -- each refusal of a call that came back so is one that it may have
 abbrev pub IsRefusable : Refusing → CallRequest → Result Called Refusal → Type 0
 IsRefusable refuses q outcome = (e : Refusal) → RefusesCall q outcome e → refuses q.node q.pass q.ask e
+
+-- the session in a turn: no call was made, and no receipt came; or the call of the message was made, and the reply is that of its outcome
+pub data HasAsked {T R : Type 0} (submits : Submitting T R) (finishes : Finishing T R) (message : ClientMessage) (old : T) (receipts : List Called) (reply : ClientReply) (after : List Called) (new : T) : Type 0 where
+  nothing : after ≡ receipts → new ≡ old → HasAsked submits finishes message old receipts reply after new
+  call : (q : CallRequest) (outcome : Result Called Refusal) → message ≡ asked_by q → q.node ≡ name_of q.node.node q.ask
+      → HasCalled submits finishes q old outcome new → EndsTurn q outcome receipts reply after → HasAsked submits finishes message old receipts reply after new

@@ -1,8 +1,11 @@
-//! The right to ask a call, which a step makes, and the outcome of its completion.
-ghost use Rattle.craq_session.specs.Asking.{IsOutcomeOf};
+//! The right to submit a call, which a step makes, and the outcome of the call: it comes at once, or
+//! by a completion.
+ghost use Rattle.std.specs.Prelude.{◌≡◌};
+ghost use Rattle.craq_session.specs.Asking.{IsFinished, IsRefusedAtOnce, IsSubmitted};
 
-use crate::CallRequest;
-use craq_completions::Outcome;
+use crate::{AsyncBackend, CallRequest};
+use craq_completions::{Outcome, Token};
+use craq_names::Refusal;
 use craq_pending_calls::refusal_of_call;
 
 /// A call that a step made (`Stepped::Calls`). Only a step makes one, and only
@@ -19,18 +22,27 @@ impl UnsentCall {
         UnsentCall { _made: () }
     }
 
-    /// Turns the mark into the right to ask the call.
-    pub(crate) fn make(self) -> SubmitToken {
+    /// Turns the mark into the right to submit the call under this token.
+    pub(crate) fn make(self, token: Token, load: Load) -> SubmitToken
+        ensures { result.token ≡ token }
+    {
         let UnsentCall { _made: () } = self;
-        SubmitToken { _made: () }
+        SubmitToken {
+            token,
+            load,
+            _made: (),
+        }
     }
 }
 
-/// The right to ask a call. Only `ConnectionState::ask` makes one, of a call that a step made
-/// (`UnsentCall`). It is not `Copy`, and the backend takes it. So no call is asked twice, and none
-/// that no step made, as long as the backend asks nothing without one.
+/// The right to submit a call, with the token of its completion. Only `ConnectionState::ask` makes
+/// one, of a call that a step made (`UnsentCall`). It is not `Copy`, and the backend takes it. So
+/// no call is submitted twice, and none that no step made, as long as the backend submits nothing
+/// without one.
 #[derive(Debug, Drop)]
 pub struct SubmitToken {
+    pub token: Token,
+    pub load: Load,
     _made: (),
 }
 
@@ -43,13 +55,37 @@ pub enum Load {
     Full,
 }
 
-/// Returns the outcome of a call whose completion has this reply. A refusal that such a request
-/// cannot have is another call's, and becomes `Closed`.
-pub fn outcome_of_completion(request: &CallRequest, reply: Outcome) -> Outcome
-    ensures { IsOutcomeOf request.now reply result }
+/// Submits a call in this session. Returns its outcome if it comes at once; else `None`, and a
+/// completion will come.
+pub(crate) fn submit_call<B: AsyncBackend>(
+    backend: &B,
+    session: &mut B::Session,
+    submit_token: SubmitToken,
+    request: &CallRequest,
+) -> Option<Outcome>
+    ensures submitted { IsSubmitted (B.submits backend.now submit_token.token) (B.finishes backend.now) request.now session.old result session.new }
+    ensures refused { IsRefusedAtOnce (B.refuses backend.now) request.now result }
+{
+    match backend.submit(session, submit_token, request) {
+        Ok(None) => None,
+        Ok(Some(reply)) => Some(backend.finish(session, request, reply)),
+        Err(refusal) => Some(Err(refusal)),
+    }
+}
+
+/// Returns the outcome of a call whose completion has this reply. The session finishes the call of
+/// a reply (`AsyncBackend::finish`). A refusal that such a request cannot have is another call's,
+/// and becomes `Closed`.
+pub(crate) fn finish_call<B: AsyncBackend>(
+    backend: &B,
+    session: &mut B::Session,
+    request: &CallRequest,
+    reply: Result<B::Reply, Refusal>,
+) -> Outcome
+    ensures { IsFinished (B.finishes backend.now) request.now reply session.old result session.new }
 {
     match reply {
-        Ok(receipt) => Ok(receipt),
+        Ok(reply) => backend.finish(session, request, reply),
         Err(refusal) => Err(refusal_of_call(&request.ask, refusal)),
     }
 }

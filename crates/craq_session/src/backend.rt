@@ -1,6 +1,6 @@
 //! `Backend`, `AsyncBackend` and `BlockingBackend`: what the connections of a server call; the
 //! served store is one.
-ghost use Rattle.std.specs.Prelude.{ℕ, IfErr, IfOk, List, Option, Result};
+ghost use Rattle.std.specs.Prelude.{◌≡◌, ℕ, IfErr, IfOk, List, Option, Result};
 ghost use Rattle.craq_completions.specs.declared.token.Token.{Token};
 ghost use Rattle.craq_model.specs.declared.ask.Ask.{Ask};
 ghost use Rattle.craq_names.specs.declared.name.NodeName.{NodeName};
@@ -9,8 +9,8 @@ ghost use Rattle.craq_seat.specs.Calls.{Called};
 ghost use Rattle.craq_session.specs.Asking.{MayHaveAny, at_once};
 ghost use Rattle.craq_session.specs.declared.call_request.CallRequest.{CallRequest};
 
-use crate::{CallRequest, Load, SubmitToken};
-use craq_completions::{Outcome, Token};
+use crate::{CallRequest, SubmitToken};
+use craq_completions::Outcome;
 use craq_frames::Text;
 use craq_names::Refusal;
 use craq_seat::CallReceipt;
@@ -32,28 +32,49 @@ pub trait Backend {
     fn unasked(&self, refusal: &Refusal);
 }
 
-/// A backend that takes a call without waiting: its outcome comes at once, or later by a
-/// completion.
+/// A backend that takes a call without waiting: its reply comes at once, or later by a completion.
+/// Each connection has a session, which makes its calls and finishes them.
 pub trait AsyncBackend: Backend {
-    /// The calls that were asked of it, each with its token and its outcome at once, if there was
-    /// one.
-    ghost submits: { Self → Token → CallRequest → Option (Result Called Refusal) → Type 0 };
+    /// The session of a connection.
+    type Session: Drop;
 
-    /// Makes the call of a question. Returns its receipt where it is answered at once; else `None`,
-    /// and a completion with this token will come. No other call may have the token until then.
+    /// The reply to a call. Only `finish` takes the receipt out of it.
+    type Reply: Drop;
+
+    /// The calls that were submitted: the session before, the token of its completion, the request,
+    /// its reply or refusal at once, if there was one, and the session after.
+    ghost submits: { Self → Token → Self.Session → CallRequest → Option (Result Self.Reply Refusal) → Self.Session → Type 0 };
+
+    /// The calls that were finished: the session before, the request, the reply, the outcome, and
+    /// the session after.
+    ghost finishes: { Self → Self.Session → CallRequest → Self.Reply → Result Called Refusal → Self.Session → Type 0 };
+
+    /// Makes the call of a request in a session. Returns its reply where it is answered at once;
+    /// else `None`, and a completion with the token will come. No other call may have the token
+    /// until then.
     ///
     /// Refused only as this backend may refuse the call, and no completion comes then. A call that
     /// is not refused at once may be refused later with any refusal of its kind of request.
     fn submit(
         &self,
+        session: &mut Self::Session,
         submit_token: SubmitToken,
         request: &CallRequest,
-        token: Token,
-        load: Load,
-    ) -> Result<Option<CallReceipt>, Refusal>
+    ) -> Result<Option<Self::Reply>, Refusal>
         ensures refused { IfErr result (λ e. Self.refuses self.now request.now.node request.now.pass request.now.ask e) }
         ensures asked { IfOk result (λ _. MayHaveAny (Self.refuses self.now) request.now) }
-        ensures submitted { submits self.now token request.now (at_once result) };
+        ensures submitted { submits self.now submit_token.token session.old request.now (at_once result) session.new };
+
+    /// Finishes the call of a request in the session that made it. Returns the receipt of the
+    /// reply, or `Closed` if the reply is of another call.
+    fn finish(
+        &self,
+        session: &mut Self::Session,
+        request: &CallRequest,
+        reply: Self::Reply,
+    ) -> Result<CallReceipt, Refusal>
+        ensures finished { finishes self.now session.old request.now reply result session.new }
+        ensures closed { IfErr result (λ e. e ≡ Refusal.Closed) };
 
     /// Notes that a call of the connection at this place is refused.
     fn refused(&self, slot: usize, refusal: Refusal);
@@ -62,5 +83,5 @@ pub trait AsyncBackend: Backend {
 /// A backend of one connection, which can wait for the completion of its call.
 pub trait BlockingBackend: AsyncBackend + Drop {
     /// Waits for the completion of the call that was submitted last, and returns its reply.
-    fn wait(&self) -> Outcome;
+    fn wait(&self) -> Result<Self::Reply, Refusal>;
 }

@@ -2,8 +2,8 @@
 //! reply once the call has its outcome; called by `phases`.
 ghost use Rattle.std.specs.Prelude.{◌≡◌, ◌↔◌, ℕ, List, Err, IfErr, IfOk, OnErr};
 ghost use Rattle.craq_front.specs.Door.{IsAllowed};
-ghost use Rattle.craq_session.specs.Turns.{IsCalled, name_of};
-ghost use Rattle.craq_session.specs.Halves.{Asks, BeginsTurn, EndsTurn, HasRoom, IsClosed, MakesRoom, RefusesCall, asked_by};
+ghost use Rattle.craq_session.specs.Turns.{IsCalled, kept, name_of};
+ghost use Rattle.craq_session.specs.Halves.{Asks, BeginsTurn, EndsTurn, HasOwnReceipt, HasRoom, IsClosed, MakesRoom, RefusesCall, asked_by};
 
 use crate::telling::reported;
 use crate::{Backend, DoorCalls};
@@ -88,6 +88,7 @@ pub(crate) fn begin_turn<C: Backend>(
 ) -> Begun
     ensures begun { BeginsTurn (C.tells backend.now) calls.old.keep_receipts calls.old.receipts.items message result calls.new.receipts.items }
     ensures keep_receipts { calls.new.keep_receipts ≡ calls.old.keep_receipts }
+    ensures receipts { calls.new.receipts.items ≡ kept calls.old.keep_receipts calls.old.receipts.items }
     ensures room { MakesRoom calls.old message result calls.new }
 {
     calls.begin();
@@ -108,6 +109,7 @@ pub(crate) fn begin_turn<C: Backend>(
 ///
 /// - `Closed` exactly where the receipt is that of another call.
 /// - `Memory` also where there was no memory for a copy of the answer.
+#[tactic(auto, using(crate::proofs::Receipts::own_receipt, crate::proofs::Receipts::no_receipt))]
 fn reply_of_call(
     alloc: Global,
     calls: &mut DoorCalls,
@@ -119,6 +121,7 @@ fn reply_of_call(
     ensures refused { IfErr result (λ e. RefusesCall request.now outcome e) }
     ensures closed { (result ≡ Err Refusal.Closed) ↔ IsClosed request.now outcome }
     ensures same { OnErr result (calls.new.receipts.items ≡ calls.old.receipts.items) }
+    ensures own { HasOwnReceipt outcome calls.old.receipts.items calls.new.receipts.items }
     ensures keep_receipts { calls.new.keep_receipts ≡ calls.old.keep_receipts }
 {
     let receipt = outcome?;

@@ -4,9 +4,10 @@ ghost use Rattle.std.specs.Prelude.{◌≡◌, None};
 ghost use Rattle.craq_session.specs.declared.connection_state.Phase.TheVariants.{Idle};
 ghost use Rattle.craq_session.specs.ConnectionStates.{KeepsRoom};
 
+use crate::asking::{finish_call, submit_call};
 use crate::phases::{advance, answered};
 use crate::{AsyncBackend, Backend, CallRequest, DoorCalls, Load, UnsentCall};
-use craq_completions::Token;
+use craq_completions::{Outcome, Token};
 use craq_frames::ClientMessage;
 use craq_front::ProtocolCodec;
 use craq_names::Refusal;
@@ -61,38 +62,40 @@ pub enum Stepped {
 /// The state of one connection whose calls are answered later: bytes in, calls to make, their
 /// outcomes, bytes out. At most one call is under way. The unsent bytes are the frames of the
 /// replies to the frames that came, in their order. Each reply is that of a turn of a request
-/// handler (`CallDoor`) for its request.
+/// handler (`CallDoor`) for its request. All its calls are made and finished in one session.
 #[derive(Drop)]
-pub struct ConnectionState {
+pub struct ConnectionState<T> {
     codec: ProtocolCodec,
     calls: DoorCalls,
     phase: Phase,
+    session: T,
     ghost idle: { phase ≡ Idle → codec.asking ≡ None },
     ghost room: { KeepsRoom phase calls },
 }
 
-impl ConnectionState {
+impl<T> ConnectionState<T> {
     ghost use Rattle.std.specs.Prelude.{◌≤◌, ◌⊎◌, ◌↔◌, ℕ, List, [], ◌++◌, take, drop, length, IsTrue, OnOk, OnErr};
     ghost use Rattle.std.specs.Option.{option_copied};
     ghost use Rattle.craq_frames.specs.declared.ask.ClientMessage.{ClientMessage};
     ghost use Rattle.craq_front.specs.Talk.{History};
-    ghost use Rattle.craq_session.specs.Asking.{IsAsked};
-    ghost use Rattle.craq_session.specs.Turns.{kept};
+    ghost use Rattle.craq_session.specs.Asking.{IsAsked, IsOutcome, called_by};
     ghost use Rattle.craq_session.specs.ConnectionStates.{AnswersCall, Holds, IsUnderWay, Took, ending_of};
 
-    /// Makes the state of a new connection. `keep_receipts`: whether the receipts of its calls are
-    /// kept. Takes no memory.
-    pub fn new(alloc: Global, keep_receipts: bool) -> Self
+    /// Makes the state of a new connection with this session. `keep_receipts`: whether the receipts
+    /// of its calls are kept. Takes no memory.
+    pub fn new(alloc: Global, session: T, keep_receipts: bool) -> Self
         ensures holds { Holds result.phase result.codec [] [] [] }
         ensures input { result.codec.buffers.input.items ≡ [] }
         ensures keep_receipts { result.calls.keep_receipts ≡ keep_receipts }
         ensures receipts { result.calls.receipts.items ≡ [] }
         ensures phase { result.phase ≡ Phase.Idle }
+        ensures session { result.session ≡ session }
     {
         ConnectionState {
             codec: ProtocolCodec::new(alloc),
             calls: DoorCalls::new(alloc, keep_receipts),
             phase: Phase::Idle,
+            session,
         }
     }
 
@@ -124,6 +127,7 @@ impl ConnectionState {
         ensures err { OnErr result (self.new.phase ≡ Phase.Over Ending.Memory) }
         ensures output { self.new.codec.buffers.output.items ≡ self.old.codec.buffers.output.items }
         ensures calls { self.new.calls ≡ self.old.calls }
+        ensures session { self.new.session ≡ self.old.session }
     {
         match self.codec.receive(alloc, bytes) {
             Ok(None) => Ok(()),
@@ -155,6 +159,7 @@ impl ConnectionState {
         ensures input { self.new.codec.buffers.input.items ≡ self.old.codec.buffers.input.items }
         ensures phase { self.new.phase ≡ self.old.phase }
         ensures calls { self.new.calls ≡ self.old.calls }
+        ensures session { self.new.session ≡ self.old.session }
     {
         self.codec.wrote(count);
     }
@@ -175,6 +180,7 @@ impl ConnectionState {
     pub fn step<C: Backend>(&mut self, alloc: Global, backend: &C) -> Stepped
         ensures took { Took (C.tells backend.now) self.old.phase result self.new.phase self.old.codec self.new.codec self.old.calls self.new.calls }
         ensures keep_receipts { self.new.calls.keep_receipts ≡ self.old.calls.keep_receipts }
+        ensures session { self.new.session ≡ self.old.session }
     {
         let phase = mem::replace(&mut self.phase, Phase::Idle);
         let (phase, stepped) = advance(alloc, backend, &mut self.codec, &mut self.calls, phase);
@@ -182,41 +188,67 @@ impl ConnectionState {
         stepped
     }
 
-    /// Makes the call that is under way, under this token. Returns its outcome at once, a receipt
-    /// or a refusal; else `None`, and a completion with this token will come
+    /// Makes the call that is under way in the session, under this token. Returns its outcome at
+    /// once, a receipt or a refusal; else `None`, and a completion with this token will come
     /// (`AsyncBackend::submit`). Where no call is under way none is made.
-    #[tactic(auto, using(crate::proofs::Asked::asked_and_waits, crate::proofs::Asked::asked_and_answered, crate::proofs::Asked::asked_and_refused))]
-    pub fn ask<T: AsyncBackend>(
-        &self,
+    #[tactic(auto, using(crate::proofs::Asked::asked))]
+    pub fn ask<B: AsyncBackend<Session = T>>(
+        &mut self,
         unsent: UnsentCall,
-        taker: &T,
+        backend: &B,
         token: Token,
         load: Load,
-    ) -> Option<Result<CallReceipt, Refusal>>
-        ensures { IsAsked (T.refuses taker.now) (T.submits taker.now token) self.now.phase result }
+    ) -> Option<Outcome>
+        ensures asked { IsAsked (B.refuses backend.now) (called_by (B.submits backend.now) (B.finishes backend.now) token) self.old.phase self.old.session result self.new.session }
+        ensures phase { self.new.phase ≡ self.old.phase }
+        ensures codec { self.new.codec ≡ self.old.codec }
+        ensures calls { self.new.calls ≡ self.old.calls }
     {
-        let submit_token = unsent.make();
+        let submit_token = unsent.make(token, load);
         let Phase::Waits(request) = &self.phase else {
+            drop(submit_token);
             return None;
         };
-        match taker.submit(submit_token, request, token, load) {
-            Ok(None) => None,
-            Ok(Some(receipt)) => Some(Ok(receipt)),
-            Err(refusal) => Some(Err(refusal)),
-        }
+        submit_call(backend, &mut self.session, submit_token, request)
+    }
+
+    /// Returns the outcome of the call that is under way, by the reply of its completion. The
+    /// session finishes the call (`AsyncBackend::finish`). Nothing happens in it where no call is
+    /// under way.
+    #[tactic(auto, using(crate::proofs::Asked::finished))]
+    pub fn finish<B: AsyncBackend<Session = T>>(
+        &mut self,
+        backend: &B,
+        reply: Result<B::Reply, Refusal>,
+    ) -> Outcome
+        ensures outcome { IsOutcome (B.finishes backend.now) self.old.phase reply self.old.session result self.new.session }
+        ensures phase { self.new.phase ≡ self.old.phase }
+        ensures codec { self.new.codec ≡ self.old.codec }
+        ensures calls { self.new.calls ≡ self.old.calls }
+    {
+        let Phase::Waits(request) = &self.phase else {
+            drop(reply);
+            return Err(Refusal::Closed);
+        };
+        finish_call(backend, &mut self.session, request, reply)
     }
 
     /// Takes the outcome of the call that is under way: appends its reply or refusal to the unsent
     /// bytes, and keeps the receipt behind the others (`end_turn`). Out of memory for the bytes of
     /// the reply it is over, and nothing is appended. Unchanged where no call is under way.
-    pub fn answer(&mut self, alloc: Global, outcome: Result<CallReceipt, Refusal>)
+    pub fn answer(&mut self, alloc: Global, outcome: Outcome)
         ensures answers { AnswersCall self.old.phase outcome self.new.phase self.old.codec self.new.codec self.old.calls self.new.calls }
         ensures keep_receipts { self.new.calls.keep_receipts ≡ self.old.calls.keep_receipts }
+        ensures session { self.new.session ≡ self.old.session }
     {
         let phase = mem::replace(&mut self.phase, Phase::Idle);
         let phase = answered(alloc, &mut self.codec, &mut self.calls, phase, outcome);
         put(&mut self.phase, phase);
     }
+}
+
+impl<T: Drop> ConnectionState<T> {
+    ghost use Rattle.craq_session.specs.Turns.{kept};
 
     /// Returns the receipts of all calls, in order, where they are kept; else none. Takes no
     /// memory.
@@ -227,9 +259,11 @@ impl ConnectionState {
             codec,
             calls,
             phase,
+            session,
         } = self;
         drop(codec);
         drop(phase);
+        drop(session);
         calls.into_receipts()
     }
 }

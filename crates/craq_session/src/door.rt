@@ -1,11 +1,13 @@
 //! `CallDoor`: the request handler of a connection that has a thread of its own. It makes the call
 //! of a request and waits for its completion.
 ghost use Rattle.std.specs.Prelude.{◌≡◌, []};
-ghost use Rattle.craq_session.specs.Halves.{IsFull, IsRefusable};
-ghost use Rattle.craq_session.specs.Turns.{IsTurn, or_memory_where};
+ghost use Rattle.craq_session.specs.Asking.{HasCalled, only_token};
+ghost use Rattle.craq_session.specs.Halves.{HasAsked, IsFull, IsRefusable};
+ghost use Rattle.craq_session.specs.Turns.{IsTurn, kept, or_memory_where};
 
+use crate::asking::{finish_call, submit_call};
 use crate::call_request::{Begun, begin_turn, end_turn};
-use crate::{BlockingBackend, CallRequest, DoorCalls, Load, UnsentCall, outcome_of_completion};
+use crate::{BlockingBackend, CallRequest, DoorCalls, Load, UnsentCall};
 use craq_completions::{Outcome, Token};
 use craq_frames::{ClientMessage, ClientReply};
 use craq_front::Door;
@@ -18,52 +20,61 @@ const ONLY: Token = Token {
     call: 0,
 };
 
-/// The request handler of one connection.
+/// The request handler of one connection. All its calls are made and finished in one session.
 #[derive(Drop)]
-pub struct CallDoor<C: BlockingBackend> {
+pub struct CallDoor<C, T> {
     alloc: Global,
     /// The backend.
     backend: C,
+    /// The session.
+    session: T,
     /// The calls so far.
     pub calls: DoorCalls,
     /// The place of the connection.
     slot: usize,
 }
 
-impl<C: BlockingBackend> CallDoor<C> {
-    /// Makes the request handler of the connection at this place, which has had no call. Takes no
-    /// memory.
-    pub fn new(alloc: Global, backend: C, slot: usize, keep_receipts: bool) -> Self
+impl<C: BlockingBackend<Session = T>, T> CallDoor<C, T> {
+    /// Makes the request handler of the connection at this place, which has this session and has
+    /// had no call. Takes no memory.
+    pub fn new(alloc: Global, backend: C, session: T, slot: usize, keep_receipts: bool) -> Self
         ensures keep_receipts { result.calls.keep_receipts ≡ keep_receipts }
         ensures receipts { result.calls.receipts.items ≡ [] }
+        ensures session { result.session ≡ session }
+        ensures backend { result.backend ≡ backend }
     {
         CallDoor {
             alloc,
             backend,
+            session,
             calls: DoorCalls::new(alloc, keep_receipts),
             slot,
         }
     }
 
     /// Makes the call of a request, and waits for its outcome.
-    fn call(&self, request: &CallRequest) -> Outcome
-        ensures { IsRefusable (C.refuses self.now.backend) request.now result }
+    fn call(&mut self, request: &CallRequest) -> Outcome
+        ensures refusable { IsRefusable (C.refuses self.old.backend) request.now result }
+        ensures called { HasCalled (C.submits self.old.backend only_token) (C.finishes self.old.backend) request.now self.old.session result self.new.session }
+        ensures calls { self.new.calls ≡ self.old.calls }
+        ensures backend { self.new.backend ≡ self.old.backend }
     {
-        let submit_token = UnsentCall::new().make();
-        match self
-            .backend
-            .submit(submit_token, request, ONLY, Load::Light)
-        {
-            Ok(Some(receipt)) => Ok(receipt),
-            Ok(None) => outcome_of_completion(request, self.backend.wait()),
-            Err(refusal) => Err(refusal),
+        let submit_token = UnsentCall::new().make(ONLY, Load::Light);
+        let backend = &self.backend;
+        match submit_call(backend, &mut self.session, submit_token, request) {
+            Some(outcome) => outcome,
+            None => {
+                let reply = backend.wait();
+                finish_call(backend, &mut self.session, request, reply)
+            }
         }
     }
 }
 
-impl<C: BlockingBackend> Door for CallDoor<C> {
+impl<C: BlockingBackend<Session = T>, T> Door for CallDoor<C, T> {
     ghost turn = { λ old message reply new.
         IsTurn (C.tells old.backend) (or_memory_where (IsFull old.calls) (C.refuses old.backend)) old.calls.keep_receipts old.calls.receipts.items message reply new.calls.receipts.items
+        × HasAsked (C.submits old.backend only_token) (C.finishes old.backend) message old.session (kept old.calls.keep_receipts old.calls.receipts.items) reply new.calls.receipts.items new.session
         × (new.calls.keep_receipts ≡ old.calls.keep_receipts) × (new.backend ≡ old.backend) };
 
     fn ask(&mut self, message: ClientMessage) -> ClientReply {

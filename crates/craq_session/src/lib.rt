@@ -12,7 +12,7 @@ mod door;
 mod phases;
 mod telling;
 
-pub use asking::{Load, SubmitToken, UnsentCall, outcome_of_completion};
+pub use asking::{Load, SubmitToken, UnsentCall};
 pub use backend::{AsyncBackend, Backend, BlockingBackend};
 pub use call_request::CallRequest;
 pub use calls::DoorCalls;

@@ -12,4 +12,5 @@ returns-clause-ends c =
     record {
       answered = answered;
       closed = ends_closed old (asked_by q) c.reply_of_call.result c.reported.result new (IsClosed q c.args.outcome) c.reply_of_call.ensures.called c.reported.ensures.reported c.reply_of_call.ensures.closed;
+      own = c.reply_of_call.ensures.own;
     }

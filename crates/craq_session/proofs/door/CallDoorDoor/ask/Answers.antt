@@ -1,5 +1,7 @@
-use Rattle.std.proofs.Common.{refl, ◌∙◌}
-use Rattle.craq_session.specs.Halves.{IsFull}
+use Rattle.std.proofs.Common.{◌≡◌, List, ap, refl, subst, ◌∙◌}
+use Rattle.craq_seat.specs.Calls.{Called}
+use Rattle.craq_session.specs.declared.calls.DoorCalls.{DoorCalls}
+use Rattle.craq_session.specs.Halves.{EndsTurn, IsFull, call, nothing}
 use Rattle.craq_session.proofs.TwoHalves.{begun_turn, halves_turn}
 use Rattle.craq_session.proofs.door.CallDoorDoor.ask.Goals as goal
 
@@ -9,6 +11,7 @@ returns-in-Reported-clause-turn g c =
     let begun = c.in-Reported.ensures in (
       begun_turn (IsFull door.calls) (g.C.Backend.refuses door.backend) (g.C.Backend.tells door.backend) door.calls.keep_receipts door.calls.receipts.items
           c.begin_turn.new.calls.receipts.items c.args.message c.in-Reported.reply begun.room begun.begun.0,
+      nothing begun.receipts refl,
       begun.keep_receipts,
       refl,
     )
@@ -17,10 +20,17 @@ pub returns-after-outcome-clause-turn : goal.returns-after-outcome-clause-turn
 returns-after-outcome-clause-turn g c =
     let door = c.args.self.now in
     let begun = c.in-Calls.ensures in
-    let ended = c.end_turn-reply.ensures in (
+    let request = c.in-Calls.request in
+    let outcome = c.call-outcome.result in
+    let reply = c.end_turn-reply.result in
+    let after = c.end_turn-reply.new.calls.receipts.items in
+    let same : c.call-outcome.new.self.calls ≡ c.begin_turn.new.calls = c.call-outcome.ensures.calls in
+    let ends : EndsTurn request outcome c.begin_turn.new.calls.receipts.items reply after =
+    subst (λ (x : DoorCalls). EndsTurn request outcome x.receipts.items reply after) same c.end_turn-reply.ensures.ends in (
       halves_turn (IsFull door.calls) (g.C.Backend.refuses door.backend) (g.C.Backend.tells door.backend) door.calls.keep_receipts door.calls.receipts.items
-          c.begin_turn.new.calls.receipts.items c.end_turn-reply.new.calls.receipts.items c.args.message c.in-Calls.request c.call-outcome.result c.end_turn-reply.result
-          c.call-outcome.ensures begun.begun ended.ends,
-      ended.keep_receipts ∙ begun.keep_receipts,
-      refl,
+          c.begin_turn.new.calls.receipts.items after c.args.message request outcome reply c.call-outcome.ensures.refusable begun.begun ends,
+      call request outcome begun.begun.0 begun.begun.1 c.call-outcome.ensures.called
+          (subst (λ (x : List Called). EndsTurn request outcome x reply after) begun.receipts ends),
+      c.end_turn-reply.ensures.keep_receipts ∙ ap (λ (x : DoorCalls). x.keep_receipts) same ∙ begun.keep_receipts,
+      c.call-outcome.ensures.backend,
     )

@@ -259,7 +259,7 @@ impl<C: Core + Named, G: Gate> Client<C, G> {
 
 /// Makes a call of this request: adds it to the store's history. Refused with `Memory` when out of
 /// memory, and with `Closed` if the client has no further number.
-fn make_call<N: Named>(
+pub(crate) fn make_call<N: Named>(
     alloc: Global,
     history: &StoreHistory<N>,
     session: &mut Session<N>,
@@ -288,7 +288,7 @@ fn make_call<N: Named>(
 
 /// Sees the steps of an answered call. Returns the receipt of the reply, or `Closed` if it is of
 /// another call.
-fn finish_call<N: Named>(
+pub(crate) fn finish_call<N: Named>(
     history: &StoreHistory<N>,
     session: &mut Session<N>,
     answered: AnsweredCall<N>,

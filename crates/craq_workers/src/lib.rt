@@ -19,6 +19,7 @@ pub use client::Client;
 pub use craq_completions::{Completion, CompletionQueue, Token};
 pub use craq_ghost_history::Named;
 pub use craq_running_node::{AskingCaller, Gate, OpenGate, Outcome, OwnAsk, Work};
+pub use craq_store_history::CallId;
 pub use craq_store_parts::{AnsweredCall, At, MadeAsk, Session};
 pub use history::{OpenedHistory, open_history};
 pub use store::{ChainStatus, Store};

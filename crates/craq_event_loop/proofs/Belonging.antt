@@ -2,6 +2,7 @@
 use Rattle.std.proofs.Common.{◌≡◌, ◌≢◌, ◌≤◌, ◌<◌, ℕ, zero, suc, ◌+◌, length, take, get_or, arith, length-append, true, List, [], ◌∷◌, ◌++◌, Option, Some, None, Result, inl, inr, sym, refl, subst, ◌∙◌}
 use Rattle.std.specs.Io.KnownBytes.{Appends, Consumes}
 use Rattle.std.proofs.lemmas.List.{append-nil, append_assoc, take_more}
+use Rattle.craq_session.specs.Asking.{Finishing}
 use Rattle.craq_session.specs.ConnectionStates.{Holds}
 use Rattle.craq_session.specs.declared.connection_state.ConnectionState.{ConnectionState}
 use Rattle.craq_names.specs.declared.refusal.Refusal.{Refusal}
@@ -24,7 +25,7 @@ none_went None b e = tt
 none_went (Some xs) None e = cc
 none_went (Some xs) (Some ys) e = let same : ys ≡ xs = cc in same ∙ sym (append-nil xs)
 
-pub nothing_came : (a b : Option (List ℕ)) (d e : ConnectionState) → Consumes a b [] → e ≡ d → Reads a b d e
+pub nothing_came : {T : Type 0} (a b : Option (List ℕ)) (d e : ConnectionState T) → Consumes a b [] → e ≡ d → Reads a b d e
 nothing_came a b d e none is = rw is (
   [],
   none,
@@ -32,13 +33,14 @@ nothing_came a b d e none is = rw is (
     heard = λ read written rounds h. subst (λ (x : List ℕ). Holds d.phase d.codec x written rounds) (sym (append-nil read)) h;
     unsent = refl;
     calls = refl;
+    session = refl;
   },
 )
 
-pub nothing_read : (a b : Option (List ℕ)) (d e : ConnectionState) → b ≡ a → e ≡ d → Reads a b d e
+pub nothing_read : {T : Type 0} (a b : Option (List ℕ)) (d e : ConnectionState T) → b ≡ a → e ≡ d → Reads a b d e
 nothing_read a b d e same is = nothing_came a b d e (none_came a b same) is
 
-pub nothing_went : (a b : Option (List ℕ)) (d e : ConnectionState) → Appends a b [] → e ≡ d → Writes a b d e
+pub nothing_went : {T : Type 0} (a b : Option (List ℕ)) (d e : ConnectionState T) → Appends a b [] → e ≡ d → Writes a b d e
 nothing_went a b d e none is = rw is (
   [],
   none,
@@ -47,10 +49,11 @@ nothing_went a b d e none is = rw is (
     unsent = refl;
     phase = refl;
     calls = refl;
+    session = refl;
   },
 )
 
-pub nothing_written : (a b : Option (List ℕ)) (d e : ConnectionState) → b ≡ a → e ≡ d → Writes a b d e
+pub nothing_written : {T : Type 0} (a b : Option (List ℕ)) (d e : ConnectionState T) → b ≡ a → e ≡ d → Writes a b d e
 nothing_written a b d e same is = nothing_went a b d e (none_went a b same) is
 
 some_taken : (count : ℕ) (bytes : List ℕ) → moves.Bytes count ≢ moves.Bytes 0 → count ≤ length bytes → take count bytes ≢ []
@@ -58,7 +61,7 @@ some_taken zero bytes some few none = some refl
 some_taken (suc count) [] some few none = omega (arith, few)
 some_taken (suc count) (byte ∷ bytes) some few none = cc
 
-module _ {S : Type 0} (now : ℕ) (old new : Connection S) where
+module _ {S T : Type 0} (now : ℕ) (old new : Connection S T) where
   pub not_heard : new.heard ≡ old.heard → new.state ≡ old.state → HearsNow now old new
   not_heard same is = inl (same, is)
 
@@ -74,60 +77,61 @@ module _ {S : Type 0} (now : ℕ) (old new : Connection S) where
   gave_now count bytes some few at gives = inr (at, take count bytes, some_taken count bytes some few, gives)
 
 -- a connection that takes a completion takes it, also if it is then marked as having something to do
-taken_busy : {S : Type 0} (number : ℕ) (reply : Result Called Refusal) (c d : Connection S) → TakesCompletion number reply c d → TakesCompletion number reply c (record d { busy = true })
-taken_busy number reply c d takes = record { own = takes.own; another = takes.another; calls = takes.calls; stream = takes.stream; over = takes.over; readiness = takes.readiness; slot = takes.slot }
+taken_busy : {S T R : Type 0} (finishes : Finishing T R) (number : ℕ) (reply : Result R Refusal) (c d : Connection S T) → TakesCompletion finishes number reply c d
+    → TakesCompletion finishes number reply c (record d { busy = true })
+taken_busy finishes number reply c d takes = record { own = takes.own; another = takes.another; calls = takes.calls; stream = takes.stream; over = takes.over; readiness = takes.readiness; slot = takes.slot }
 
 -- the connection under the token's key takes the completion, and then has something to do
-pub delivered : {S : Type 0} (s t : Slab (Connection S)) (token : Token) (c d : Connection S) (reply : Result Called Refusal)
-    → get s token.connection ≡ Some c → TakesCompletion token.call reply c d → Wakes (with_value s token.connection d) t token.connection → Delivers s t token reply
-delivered s t token c d reply was takes wakes c' here =
+pub delivered : {S T R : Type 0} (finishes : Finishing T R) (s t : Slab (Connection S T)) (token : Token) (c d : Connection S T) (reply : Result R Refusal)
+    → get s token.connection ≡ Some c → TakesCompletion finishes token.call reply c d → Wakes (with_value s token.connection d) t token.connection → Delivers finishes s t token reply
+delivered finishes s t token c d reply was takes wakes c' here =
     let e : c' ≡ c = cc in
     let is : get (with_value s token.connection d) token.connection ≡ Some d = (Updates-with_value s token.connection d (rw was refl)).changed in
-    rw e (record d { busy = true }, wakes d is, taken_busy token.call reply c d takes)
+    rw e (record d { busy = true }, wakes d is, taken_busy finishes token.call reply c d takes)
 
-module _ {S : Type 0} where
+module _ {S T R : Type 0} (finishes : Finishing T R) where
   -- these completions are left, and those behind them are delivered
-  abbrev pub AreLeft : List (Completion (Result Called Refusal)) → List (Completion (Result Called Refusal)) → Slab (Connection S) → Slab (Connection S) → Type 0
-  AreLeft all left old new = (done : List (Completion (Result Called Refusal))) × (all ≡ left ++ done) × DeliversAll done old new
+  abbrev pub AreLeft : List (Completion (Result R Refusal)) → List (Completion (Result R Refusal)) → Slab (Connection S T) → Slab (Connection S T) → Type 0
+  AreLeft all left old new = (done : List (Completion (Result R Refusal))) × (all ≡ left ++ done) × DeliversAll finishes done old new
 
-  pub all_left : (all : List (Completion (Result Called Refusal))) (s : Slab (Connection S)) → AreLeft all all s s
+  pub all_left : (all : List (Completion (Result R Refusal))) (s : Slab (Connection S T)) → AreLeft all all s s
   all_left all s = ([], sym (append-nil all), refl)
 
-  pub one_less : (all left rest : List (Completion (Result Called Refusal))) (completion : Completion (Result Called Refusal)) (s t u : Slab (Connection S))
-      → AreLeft all left s t → left ≡ rest ++ completion ∷ [] → DeliversCompletion completion t u → AreLeft all rest s u
+  pub one_less : (all left rest : List (Completion (Result R Refusal))) (completion : Completion (Result R Refusal)) (s t u : Slab (Connection S T))
+      → AreLeft all left s t → left ≡ rest ++ completion ∷ [] → DeliversCompletion finishes completion t u → AreLeft all rest s u
   one_less all left rest completion s t u before last delivers = (
     completion ∷ before.0,
-    before.1 ∙ subst (λ (x : List (Completion (Result Called Refusal))). left ++ before.0 ≡ x ++ before.0) last refl ∙ append_assoc rest (completion ∷ []) before.0,
+    before.1 ∙ subst (λ (x : List (Completion (Result R Refusal))). left ++ before.0 ≡ x ++ before.0) last refl ∙ append_assoc rest (completion ∷ []) before.0,
     (t, before.2, delivers),
   )
 
-  pub none_left : (all left : List (Completion (Result Called Refusal))) (s t : Slab (Connection S)) → AreLeft all left s t → left ≡ [] → DeliversAll all s t
+  pub none_left : (all left : List (Completion (Result R Refusal))) (s t : Slab (Connection S T)) → AreLeft all left s t → left ≡ [] → DeliversAll finishes all s t
   none_left all left s t before none =
-      subst (λ (x : List (Completion (Result Called Refusal))). DeliversAll x s t)
-      (sym (before.1 ∙ subst (λ (x : List (Completion (Result Called Refusal))). left ++ before.0 ≡ x ++ before.0) none refl))
+      subst (λ (x : List (Completion (Result R Refusal))). DeliversAll finishes x s t)
+      (sym (before.1 ∙ subst (λ (x : List (Completion (Result R Refusal))). left ++ before.0 ≡ x ++ before.0) none refl))
       before.2
 
 -- as many completions as there were, one by one
-pub one_shorter : (left rest : List (Completion (Result Called Refusal))) (completion : Completion (Result Called Refusal)) (index all : ℕ) → left ≡ rest ++ completion ∷ [] → length left + index ≡ all → length rest + (index + 1) ≡ all
-one_shorter left rest completion index all last long =
-    let is : length (rest ++ completion ∷ []) + index ≡ all = subst (λ (x : List (Completion (Result Called Refusal))). length x + index ≡ all) last long in
+pub one_shorter : {R : Type 0} (left rest : List (Completion (Result R Refusal))) (completion : Completion (Result R Refusal)) (index all : ℕ) → left ≡ rest ++ completion ∷ [] → length left + index ≡ all → length rest + (index + 1) ≡ all
+one_shorter {R = R} left rest completion index all last long =
+    let is : length (rest ++ completion ∷ []) + index ≡ all = subst (λ (x : List (Completion (Result R Refusal))). length x + index ≡ all) last long in
     omega (arith, length-append rest (completion ∷ []), is)
 
-pub none_long : (left : List (Completion (Result Called Refusal))) (index all : ℕ) → length left + index ≡ all → all ≤ index → left ≡ []
+pub none_long : {R : Type 0} (left : List (Completion (Result R Refusal))) (index all : ℕ) → length left + index ≡ all → all ≤ index → left ≡ []
 none_long [] index all long reached = refl
 none_long (completion ∷ rest) index all long reached = absurd (omega (arith, long, reached))
 
 -- the last completion that was left, behind those that are left now
-pub last_left : (left popped rest : List (Completion (Result Called Refusal))) (completion : Completion (Result Called Refusal)) → left ≡ popped ++ completion ∷ [] → rest ≡ popped → left ≡ rest ++ completion ∷ []
-last_left left popped rest completion is same = is ∙ subst (λ (x : List (Completion (Result Called Refusal))). popped ++ completion ∷ [] ≡ x ++ completion ∷ []) (sym same) refl
+pub last_left : {R : Type 0} (left popped rest : List (Completion (Result R Refusal))) (completion : Completion (Result R Refusal)) → left ≡ popped ++ completion ∷ [] → rest ≡ popped → left ≡ rest ++ completion ∷ []
+last_left {R = R} left popped rest completion is same = is ∙ subst (λ (x : List (Completion (Result R Refusal))). popped ++ completion ∷ [] ≡ x ++ completion ∷ []) (sym same) refl
 
-module _ {S : Type 0} (happens : Slab (Connection S) → Slab (Connection S) → ℕ → Type 0) where
+module _ {S T : Type 0} (happens : Slab (Connection S T) → Slab (Connection S T) → ℕ → Type 0) where
   -- it happened under one key more, behind all before
-  pub one_more : (keys : List ℕ) (one : ℕ) (s t u : Slab (Connection S)) → OneByOne happens keys s t → Alone happens t u one → OneByOne happens (keys ++ one ∷ []) s u
-  one_more [] one s t u before now = (u, subst (λ (x : Slab (Connection S)). Alone happens x u one) before now, refl)
+  pub one_more : (keys : List ℕ) (one : ℕ) (s t u : Slab (Connection S T)) → OneByOne happens keys s t → Alone happens t u one → OneByOne happens (keys ++ one ∷ []) s u
+  one_more [] one s t u before now = (u, subst (λ (x : Slab (Connection S T)). Alone happens x u one) before now, refl)
   one_more (key ∷ keys) one s t u before now = (before.0, before.1, one_more keys one before.0 t u before.2 now)
 
-  pub one_more_at : (keys : List ℕ) (index : ℕ) (s t u : Slab (Connection S)) → index < length keys → OneByOne happens (take index keys) s t
+  pub one_more_at : (keys : List ℕ) (index : ℕ) (s t u : Slab (Connection S T)) → index < length keys → OneByOne happens (take index keys) s t
       → happens t u (get_or keys index 0) → StaysVacant t u (get_or keys index 0) → OthersStay t u (get_or keys index 0)
       → OneByOne happens (take (index + 1) keys) s u
   one_more_at keys index s t u there before now vacant others =

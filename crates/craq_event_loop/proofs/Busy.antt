@@ -114,29 +114,29 @@ before_it keys index key once within listed same =
     let before : listed.0 < index = omega (arith, listed.1, length-take index keys) in
     once listed.0 index 0 before within (sym (get_or-take index keys listed.0 0 before) ∙ found_at (take index keys) listed.0 key 0 listed.1 listed.2 ∙ same)
 
-module _ {S : Type 0} where
+module _ {S T : Type 0} where
   -- under each key a connection is there where one was, and is marked where it was
-  abbrev pub MarksStay : Slab (Connection S) → Slab (Connection S) → Type 0
+  abbrev pub MarksStay : Slab (Connection S T) → Slab (Connection S T) → Type 0
   MarksStay s t = (key : ℕ) → (is_marked (get t key) ≡ is_marked (get s key)) × (is_some (get t key) ≡ is_some (get s key))
 
   -- each event under one key leaves the marks
-  abbrev pub KeepsMarks : (Slab (Connection S) → Slab (Connection S) → ℕ → Type 0) → Type 0
+  abbrev pub KeepsMarks : (Slab (Connection S T) → Slab (Connection S T) → ℕ → Type 0) → Type 0
   KeepsMarks happens =
-      (s t : Slab (Connection S)) (key : ℕ) → happens s t key
-      → (c : Connection S) → get s key ≡ Some c → (d : Connection S) × (get t key ≡ Some d) × (d.busy ≡ c.busy)
+      (s t : Slab (Connection S T)) (key : ℕ) → happens s t key
+      → (c : Connection S T) → get s key ≡ Some c → (d : Connection S T) × (get t key ≡ Some d) × (d.busy ≡ c.busy)
 
-  pub len-le : (s t : Slab (Connection S)) → ((key : ℕ) → is_some (get t key) ≡ true → is_some (get s key) ≡ true) → slab_len t ≤ slab_len s
+  pub len-le : (s t : Slab (Connection S T)) → ((key : ℕ) → is_some (get t key) ≡ true → is_some (get s key) ≡ true) → slab_len t ≤ slab_len s
   len-le s t there = full-le s.slots t.slots there
 
-  marks_at : (s t : Slab (Connection S)) (key : ℕ) (o : Option (Connection S)) → get s key ≡ o
-      → ((c : Connection S) → get s key ≡ Some c → (d : Connection S) × (get t key ≡ Some d) × (d.busy ≡ c.busy)) → (get s key ≡ None → get t key ≡ None)
+  marks_at : (s t : Slab (Connection S T)) (key : ℕ) (o : Option (Connection S T)) → get s key ≡ o
+      → ((c : Connection S T) → get s key ≡ Some c → (d : Connection S T) × (get t key ≡ Some d) × (d.busy ≡ c.busy)) → (get s key ≡ None → get t key ≡ None)
       → (is_marked (get t key) ≡ is_marked (get s key)) × (is_some (get t key) ≡ is_some (get s key))
   marks_at s t key None was kept vacant = rw (was, vacant was) (refl, refl)
   marks_at s t key (Some c) was kept vacant =
-      let k : (d : Connection S) × (get t key ≡ Some d) × (d.busy ≡ c.busy) = kept c was in
+      let k : (d : Connection S T) × (get t key ≡ Some d) × (d.busy ≡ c.busy) = kept c was in
       rw (was, k.1) (k.2, refl)
 
-  pub marks_alone : (s t : Slab (Connection S)) (key : ℕ) → ((c : Connection S) → get s key ≡ Some c → (d : Connection S) × (get t key ≡ Some d) × (d.busy ≡ c.busy))
+  pub marks_alone : (s t : Slab (Connection S T)) (key : ℕ) → ((c : Connection S T) → get s key ≡ Some c → (d : Connection S T) × (get t key ≡ Some d) × (d.busy ≡ c.busy))
       → StaysVacant s t key → OthersStay s t key → MarksStay s t
   marks_alone s t key kept vacant others other =
       elim (cases_eq other key) [
@@ -144,23 +144,23 @@ module _ {S : Type 0} where
         | inr differs ↦ rw (others other differs) (refl, refl)
       ]
 
-  pub marks_then : (s t u : Slab (Connection S)) → MarksStay s t → MarksStay t u → MarksStay s u
+  pub marks_then : (s t u : Slab (Connection S T)) → MarksStay s t → MarksStay t u → MarksStay s u
   marks_then s t u first second key = ((second key).0 ∙ (first key).0, (second key).1 ∙ (first key).1)
 
-  pub marks_kept : (happens : Slab (Connection S) → Slab (Connection S) → ℕ → Type 0) → KeepsMarks happens → (keys : List ℕ) (s t : Slab (Connection S)) → OneByOne happens keys s t → MarksStay s t
+  pub marks_kept : (happens : Slab (Connection S T) → Slab (Connection S T) → ℕ → Type 0) → KeepsMarks happens → (keys : List ℕ) (s t : Slab (Connection S T)) → OneByOne happens keys s t → MarksStay s t
   marks_kept happens keep_receipts [] s t same = λ key. rw same (refl, refl)
   marks_kept happens keep_receipts (one ∷ keys) s t h =
       marks_then s h.0 t (marks_alone s h.0 one (keep_receipts s h.0 one h.1.0) h.1.1 h.1.2) (marks_kept happens keep_receipts keys h.0 t h.2)
 
   -- where it happens under other keys alone, what is under a key stays
-  pub untouched : (happens : Slab (Connection S) → Slab (Connection S) → ℕ → Type 0) (keys : List ℕ) (s t : Slab (Connection S)) (key : ℕ) → OneByOne happens keys s t
+  pub untouched : (happens : Slab (Connection S T) → Slab (Connection S T) → ℕ → Type 0) (keys : List ℕ) (s t : Slab (Connection S T)) (key : ℕ) → OneByOne happens keys s t
       → ¬ Contains keys key → get t key ≡ get s key
   untouched happens [] s t key same not = rw same refl
   untouched happens (one ∷ keys) s t key h not =
       untouched happens keys h.0 t key h.2 (λ listed. not (Contains-cons one key keys listed)) ∙ h.1.2 key (λ same. not (0, omega arith, sym same))
 
   -- the list stays right where the marks stay
-  pub listed_still : (s t : Slab (Connection S)) (busy later : Vec ℕ Global) → MarksStay s t → ListsMarked s busy later → ListsMarked t busy later
+  pub listed_still : (s t : Slab (Connection S T)) (busy later : Vec ℕ Global) → MarksStay s t → ListsMarked s busy later → ListsMarked t busy later
   listed_still s t busy later stay l =
       let less : slab_len t ≤ slab_len s = len-le s t (λ key is. sym (stay key).1 ∙ is) in
       record {
@@ -172,19 +172,19 @@ module _ {S : Type 0} where
       }
 
   -- a connection that is marked is there
-  marked_there : (o : Option (Connection S)) → is_marked o ≡ true → is_some o ≡ true
+  marked_there : (o : Option (Connection S T)) → is_marked o ≡ true → is_some o ≡ true
   marked_there None is = cc
   marked_there (Some c) is = refl
 
   -- the list with a key that it does not name
-  one_key_more : (s : Slab (Connection S)) (busy later : Vec ℕ Global) (key : ℕ) → ListsMarked s busy later → is_marked (get s key) ≡ false
+  one_key_more : (s : Slab (Connection S T)) (busy later : Vec ℕ Global) (key : ℕ) → ListsMarked s busy later → is_marked (get s key) ≡ false
       → AllPairs (λ x y. x ≢ y) (busy.items ++ key ∷ [])
   one_key_more s busy later key l unmarked =
       all_pairs_push (λ x y. x ≢ y) busy.items key l.once
       (λ k d within same. (let is : is_marked (get s key) ≡ true = (l.marked key).0 (subst (λ (x : ℕ). Contains busy.items x) same (Contains-get_or busy.items k d within)) in cc))
 
   -- there is room for the key of a connection that is not marked
-  pub has_room : (s : Slab (Connection S)) (busy later : Vec ℕ Global) (key : ℕ) → ListsMarked s busy later → is_some (get s key) ≡ true → is_marked (get s key) ≡ false
+  pub has_room : (s : Slab (Connection S T)) (busy later : Vec ℕ Global) (key : ℕ) → ListsMarked s busy later → is_some (get s key) ≡ true → is_marked (get s key) ≡ false
       → length busy.items < vec_capacity busy
   has_room s busy later key l here unmarked =
       let found : (other : ℕ) → Contains (busy.items ++ key ∷ []) other → is_some (get s other) ≡ true =
@@ -196,7 +196,7 @@ module _ {S : Type 0} where
       omega (arith, length-append busy.items (key ∷ []), long, l.room)
 
   -- a connection that was not marked is, and its key comes to the list
-  pub listed_more : (s t : Slab (Connection S)) (busy more later : Vec ℕ Global) (key : ℕ) (c : Connection S) → ListsMarked s busy later
+  pub listed_more : (s t : Slab (Connection S T)) (busy more later : Vec ℕ Global) (key : ℕ) (c : Connection S T) → ListsMarked s busy later
       → get s key ≡ Some c → c.busy ≡ false → is_marked (get t key) ≡ true → OthersStay s t key
       → more.items ≡ busy.items ++ key ∷ [] → vec_capacity busy ≤ vec_capacity more → ListsMarked t more later
   listed_more s t busy more later key c l was unmarked now others is grows =
@@ -227,7 +227,7 @@ module _ {S : Type 0} where
       }
 
   -- a slab of marked connections behind stays one after an event, if a connection that changed is marked
-  pub behind_still : (s t : Slab (Connection S)) (key : ℕ) → MarksBehind s → OthersStay s t key → ((c : Connection S) → get t key ≡ Some c → c.busy ≡ true) → MarksBehind t
+  pub behind_still : (s t : Slab (Connection S T)) (key : ℕ) → MarksBehind s → OthersStay s t key → ((c : Connection S T) → get t key ≡ Some c → c.busy ≡ true) → MarksBehind t
   behind_still s t key marks others on other c here is =
       elim (cases_eq other key) [
         | inl same ↦ on c (ap (get t) (sym same) ∙ here)
@@ -235,20 +235,20 @@ module _ {S : Type 0} where
       ]
 
   -- under this key the mark is right
-  abbrev pub IsRightAt : Slab (Connection S) → ℕ → Type 0
-  IsRightAt t key = (d : Connection S) → get t key ≡ Some d → d.busy ≡ true ↔ IsBehind d
+  abbrev pub IsRightAt : Slab (Connection S T) → ℕ → Type 0
+  IsRightAt t key = (d : Connection S T) → get t key ≡ Some d → d.busy ≡ true ↔ IsBehind d
 
-  was_listed : (s t : Slab (Connection S)) (busy later : Vec ℕ Global) (key : ℕ) (b : Bool) → is_marked (get s key) ≡ b → ListsMarked s busy later
+  was_listed : (s t : Slab (Connection S T)) (busy later : Vec ℕ Global) (key : ℕ) (b : Bool) → is_marked (get s key) ≡ b → ListsMarked s busy later
       → (¬ (Contains busy.items key) → get t key ≡ get s key) → is_marked (get t key) ≡ true → Contains busy.items key
   was_listed s t busy later key true is l same on = (l.marked key).1 is
   was_listed s t busy later key false is l same on =
       let stays : get t key ≡ get s key = same (λ listed. (let no : is_marked (get s key) ≡ true = (l.marked key).0 listed in cc)) in cc
 
-  module _ (happens : Slab (Connection S) → Slab (Connection S) → ℕ → Type 0) where
+  module _ (happens : Slab (Connection S T) → Slab (Connection S T) → ℕ → Type 0) where
     -- where a mark is right it stays so, since each mark that is set is right
-    right_still : ((s t : Slab (Connection S)) (key : ℕ) → Alone happens s t key → IsRightAt t key)
-        → (keys : List ℕ) (s t : Slab (Connection S)) (key : ℕ) → OneByOne happens keys s t → IsRightAt s key → IsRightAt t key
-    right_still sets [] s t key same right = subst (λ (x : Slab (Connection S)). IsRightAt x key) (sym same) right
+    right_still : ((s t : Slab (Connection S T)) (key : ℕ) → Alone happens s t key → IsRightAt t key)
+        → (keys : List ℕ) (s t : Slab (Connection S T)) (key : ℕ) → OneByOne happens keys s t → IsRightAt s key → IsRightAt t key
+    right_still sets [] s t key same right = subst (λ (x : Slab (Connection S T)). IsRightAt x key) (sym same) right
     right_still sets (one ∷ keys) s t key h right =
         right_still sets keys h.0 t key h.2 (elim (cases_eq key one) [
           | inl same ↦ subst (λ (k : ℕ). IsRightAt h.0 k) (sym same) (sets s h.0 one h.1)
@@ -256,8 +256,8 @@ module _ {S : Type 0} where
         ])
 
     -- the marks under these keys are right afterwards
-    pub right_after : ((s t : Slab (Connection S)) (key : ℕ) → Alone happens s t key → IsRightAt t key)
-        → (keys : List ℕ) (s t : Slab (Connection S)) (key : ℕ) → OneByOne happens keys s t → Contains keys key → IsRightAt t key
+    pub right_after : ((s t : Slab (Connection S T)) (key : ℕ) → Alone happens s t key → IsRightAt t key)
+        → (keys : List ℕ) (s t : Slab (Connection S T)) (key : ℕ) → OneByOne happens keys s t → Contains keys key → IsRightAt t key
     right_after sets [] s t key h listed = absurd (omega (arith, listed.1))
     right_after sets (one ∷ keys) s t key h listed =
         elim (Contains-cons_cases one key keys listed) [
@@ -266,12 +266,12 @@ module _ {S : Type 0} where
         ]
 
     -- where none was under a key none comes
-    there_before : (s t : Slab (Connection S)) (key : ℕ) (o : Option (Connection S)) → get s key ≡ o → (get s key ≡ None → get t key ≡ None) → is_some (get t key) ≡ true → is_some o ≡ true
+    there_before : (s t : Slab (Connection S T)) (key : ℕ) (o : Option (Connection S T)) → get s key ≡ o → (get s key ≡ None → get t key ≡ None) → is_some (get t key) ≡ true → is_some o ≡ true
     there_before s t key None was vacant is = let no : get t key ≡ None = vacant was in cc
     there_before s t key (Some c) was vacant is = refl
 
-    none_comes : (keys : List ℕ) (s t : Slab (Connection S)) (key : ℕ) → OneByOne happens keys s t → is_some (get t key) ≡ true → is_some (get s key) ≡ true
-    none_comes [] s t key same is = subst (λ (x : Slab (Connection S)). is_some (get x key) ≡ true) same is
+    none_comes : (keys : List ℕ) (s t : Slab (Connection S T)) (key : ℕ) → OneByOne happens keys s t → is_some (get t key) ≡ true → is_some (get s key) ≡ true
+    none_comes [] s t key same is = subst (λ (x : Slab (Connection S T)). is_some (get x key) ≡ true) same is
     none_comes (one ∷ keys) s t key h is =
         let mid : is_some (get h.0 key) ≡ true = none_comes keys h.0 t key h.2 is in
         elim (cases_eq key one) [
@@ -281,7 +281,7 @@ module _ {S : Type 0} where
         ]
 
     -- the keys that the filter keeps of the busy list are those of the connections that are marked now
-    pub listed_after : (s t : Slab (Connection S)) (busy later kept empty : Vec ℕ Global) → ListsMarked s busy later → OneByOne happens busy.items s t
+    pub listed_after : (s t : Slab (Connection S T)) (busy later kept empty : Vec ℕ Global) → ListsMarked s busy later → OneByOne happens busy.items s t
         → kept.items ≡ filter (λ key. is_marked (get t key)) busy.items → empty.items ≡ [] → vec_capacity later ≤ vec_capacity kept → vec_capacity busy ≤ vec_capacity empty
         → ListsMarked t kept empty
     listed_after s t busy later kept empty l h is none grows grows_too =
@@ -299,7 +299,7 @@ module _ {S : Type 0} where
         }
 
   -- all marks are right, where those under the keys of the list are, and else nothing changed
-  pub right_everywhere : (s t : Slab (Connection S)) (busy later : Vec ℕ Global) → ListsMarked s busy later → MarksBehind s
+  pub right_everywhere : (s t : Slab (Connection S T)) (busy later : Vec ℕ Global) → ListsMarked s busy later → MarksBehind s
       → ((key : ℕ) → ¬ (Contains busy.items key) → get t key ≡ get s key) → ((key : ℕ) → Contains busy.items key → IsRightAt t key)
       → (key : ℕ) → IsRightAt t key
   right_everywhere s t busy later l behind same right key = by_mark (is_marked (get s key)) refl
@@ -313,20 +313,20 @@ module _ {S : Type 0} where
           (λ on. (let is : is_marked (get s key) ≡ d.busy = rw was refl in cc), λ is. behind key d was is)
           )
 
-  marks_of : (t : Slab (Connection S)) (key : ℕ) (o : Option (Connection S)) → get t key ≡ o → IsRightAt t key → is_marked o ≡ true
-      → (c : Connection S) × (get t key ≡ Some c) × IsBehind c
+  marks_of : (t : Slab (Connection S T)) (key : ℕ) (o : Option (Connection S T)) → get t key ≡ o → IsRightAt t key → is_marked o ≡ true
+      → (c : Connection S T) × (get t key ≡ Some c) × IsBehind c
   marks_of t key None is right on = cc
   marks_of t key (Some c) is right on = (c, is, (right c is).0 on)
 
   -- where all marks are right, the list names just the connections that are behind
-  pub lists_behind : (t : Slab (Connection S)) (busy later : Vec ℕ Global) → ListsMarked t busy later → ((key : ℕ) → IsRightAt t key) → ListsBehind t busy.items
+  pub lists_behind : (t : Slab (Connection S T)) (busy later : Vec ℕ Global) → ListsMarked t busy later → ((key : ℕ) → IsRightAt t key) → ListsBehind t busy.items
   lists_behind t busy later l right key = (
     λ listed. marks_of t key (get t key) refl (right key) ((l.marked key).0 listed),
     λ is. (l.marked key).1 (let on : is.0.busy ≡ true = (right key is.0 is.1).1 is.2 in (ap is_marked is.1 ∙ on)),
   )
 
   -- one key more was gone through, and is kept where its connection is marked now
-  pub kept_more : (keys kept : List ℕ) (index : ℕ) (s t : Slab (Connection S)) → AllPairs (λ x y. x ≢ y) keys → index < length keys
+  pub kept_more : (keys kept : List ℕ) (index : ℕ) (s t : Slab (Connection S T)) → AllPairs (λ x y. x ≢ y) keys → index < length keys
       → kept ≡ filter (λ key. is_marked (get s key)) (take index keys) → OthersStay s t (get_or keys index 0)
       → filter (λ key. is_marked (get t key)) (take (index + 1) keys)
       ≡ kept ++ cond (is_marked (get t (get_or keys index 0))) (get_or keys index 0 ∷ []) []
@@ -337,18 +337,18 @@ module _ {S : Type 0} where
       filter_more (λ key. is_marked (get t key)) keys index 0 within ∙ ap (λ (x : List ℕ). x ++ cond (is_marked (get t (get_or keys index 0))) (get_or keys index 0 ∷ []) []) (same ∙ sym is)
 
   -- the list is no longer than there are connections
-  listed_len : (s : Slab (Connection S)) (busy later : Vec ℕ Global) → ListsMarked s busy later → length busy.items ≤ slab_len s
+  listed_len : (s : Slab (Connection S T)) (busy later : Vec ℕ Global) → ListsMarked s busy later → length busy.items ≤ slab_len s
   listed_len s busy later l = keys-le busy.items s.slots l.once (λ key listed. marked_there (get s key) ((l.marked key).0 listed))
 
   -- there is room for one key more of those that are kept
-  pub room_to_keep : (s : Slab (Connection S)) (busy empty kept : Vec ℕ Global) (p : ℕ → Bool) (index : ℕ) → ListsMarked s busy empty → index < length busy.items
+  pub room_to_keep : (s : Slab (Connection S T)) (busy empty kept : Vec ℕ Global) (p : ℕ → Bool) (index : ℕ) → ListsMarked s busy empty → index < length busy.items
       → kept.items ≡ filter p (take index busy.items) → vec_capacity empty ≤ vec_capacity kept → length kept.items < vec_capacity kept
   room_to_keep s busy empty kept p index l within is grows =
       let long : length kept.items ≡ count_by p (take index busy.items) = ap length is ∙ length-filter p (take index busy.items) in
       omega (arith, long, count_by-le-length p (take index busy.items), length-take index busy.items, listed_len s busy empty l, l.room_later, grows)
 
   -- one key more is kept, and one is not
-  pub one_kept : (keys kept more : List ℕ) (index key : ℕ) (s t : Slab (Connection S)) → AllPairs (λ x y. x ≢ y) keys → index < length keys → key ≡ get_or keys index 0
+  pub one_kept : (keys kept more : List ℕ) (index key : ℕ) (s t : Slab (Connection S T)) → AllPairs (λ x y. x ≢ y) keys → index < length keys → key ≡ get_or keys index 0
       → kept ≡ filter (λ k. is_marked (get s k)) (take index keys) → OthersStay s t key → is_marked (get t key) ≡ true → more ≡ kept ++ key ∷ []
       → more ≡ filter (λ k. is_marked (get t k)) (take (index + 1) keys)
   one_kept keys kept more index key s t once within at is others on pushed =
@@ -358,7 +358,7 @@ module _ {S : Type 0} where
       ∙ ap (λ (b : Bool). kept ++ cond b (get_or keys index 0 ∷ []) []) marked in
       pushed ∙ ap (λ (k : ℕ). kept ++ k ∷ []) at ∙ sym whole
 
-  pub one_left_out : (keys kept : List ℕ) (index key : ℕ) (s t : Slab (Connection S)) → AllPairs (λ x y. x ≢ y) keys → index < length keys → key ≡ get_or keys index 0
+  pub one_left_out : (keys kept : List ℕ) (index key : ℕ) (s t : Slab (Connection S T)) → AllPairs (λ x y. x ≢ y) keys → index < length keys → key ≡ get_or keys index 0
       → kept ≡ filter (λ k. is_marked (get s k)) (take index keys) → OthersStay s t key → is_marked (get t key) ≡ false
       → kept ≡ filter (λ k. is_marked (get t k)) (take (index + 1) keys)
   one_left_out keys kept index key s t once within at is others off =
@@ -369,7 +369,7 @@ module _ {S : Type 0} where
       sym (append-nil kept) ∙ sym whole
 
   -- where there are no connections the list names none
-  none_listed : (s : Slab (Connection S)) (busy later : Vec ℕ Global) → slab_len s ≡ 0 → busy.items ≡ [] → later.items ≡ [] → ListsMarked s busy later
+  none_listed : (s : Slab (Connection S T)) (busy later : Vec ℕ Global) → slab_len s ≡ 0 → busy.items ≡ [] → later.items ≡ [] → ListsMarked s busy later
   none_listed s busy later none empty empty_too =
       let vacant : (key : ℕ) → get s key ≡ None = none_there s.slots none in
       record {
@@ -383,22 +383,22 @@ module _ {S : Type 0} where
         room_later = omega (arith, none);
       }
 
-  none_behind : (s : Slab (Connection S)) → slab_len s ≡ 0 → MarksBehind s
+  none_behind : (s : Slab (Connection S T)) → slab_len s ≡ 0 → MarksBehind s
   none_behind s none key c here is = (let vacant : get s key ≡ None = none_there s.slots none key in cc)
 
   -- a thread that has no connections yet forgets none
-  pub none_forgotten : (m : Members S) → HasNone m → NoneForgotten m
+  pub none_forgotten : {R : Type 0} (m : Members S T R) → HasNone m → NoneForgotten m
   none_forgotten m h = record {
     listed = none_listed m.connections m.busy m.later h.0 (no_items m.busy h.1) (no_items m.later h.2);
     behind = none_behind m.connections h.0;
   }
 
   -- more room, and nothing else
-  pub listed_grown : (s t : Slab (Connection S)) (busy later more_busy more_later : Vec ℕ Global) → ListsMarked s busy later → t.slots ≡ s.slots
+  pub listed_grown : (s t : Slab (Connection S T)) (busy later more_busy more_later : Vec ℕ Global) → ListsMarked s busy later → t.slots ≡ s.slots
       → more_busy.items ≡ busy.items → more_later.items ≡ later.items → vec_capacity busy ≤ vec_capacity more_busy → vec_capacity later ≤ vec_capacity more_later
       → ListsMarked t more_busy more_later
   listed_grown s t busy later more_busy more_later l same is is_too grows grows_too =
-      let at : (key : ℕ) → get t key ≡ get s key = λ key. ap (λ (x : List (Option (Connection S))). get_or x key None) same in
+      let at : (key : ℕ) → get t key ≡ get s key = λ key. ap (λ (x : List (Option (Connection S T))). get_or x key None) same in
       let long : slab_len t ≡ slab_len s = ap full same in
       record {
         marked = λ key. (
@@ -411,11 +411,11 @@ module _ {S : Type 0} where
         room_later = omega (arith, l.room_later, long, grows_too);
       }
 
-  pub behind_same : (s t : Slab (Connection S)) → ((key : ℕ) → get t key ≡ get s key) → MarksBehind s → MarksBehind t
+  pub behind_same : (s t : Slab (Connection S T)) → ((key : ℕ) → get t key ≡ get s key) → MarksBehind s → MarksBehind t
   behind_same s t same marks key c here is = marks key c (sym (same key) ∙ here) is
 
   -- a connection that is not marked comes, and there is room for its key
-  pub listed_inserted : (s t : Slab (Connection S)) (busy later : Vec ℕ Global) (key : ℕ) (c : Connection S) → ListsMarked s busy later
+  pub listed_inserted : (s t : Slab (Connection S T)) (busy later : Vec ℕ Global) (key : ℕ) (c : Connection S T) → ListsMarked s busy later
       → get s key ≡ None → get t key ≡ Some c → c.busy ≡ false → OthersStay s t key → slab_len t ≤ vec_capacity busy → slab_len t ≤ vec_capacity later
       → ListsMarked t busy later
   listed_inserted s t busy later key c l was is unmarked others room room_too =

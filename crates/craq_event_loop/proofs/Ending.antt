@@ -4,7 +4,7 @@ use Rattle.craq_event_loop.specs.declared.connection.Connection.{Connection}
 use Rattle.craq_event_loop.specs.declared.connection.Readiness.{Readiness}
 use Rattle.craq_event_loop.specs.Sockets.{EndsAsSocket, ReadsOn, WritesOn}
 
-module _ {S : Type 0} (is_over : S → Type 0) (old new : Connection S) where
+module _ {S T : Type 0} (is_over : S → Type 0) (old new : Connection S T) where
   pub is_as_before : new.over ≡ old.over → EndsAsSocket is_over old new
   is_as_before same = λ over. inl cc
 
@@ -16,7 +16,7 @@ off_if : (reported : Bool) → not reported ≡ false → reported ≡ true
 off_if true is = refl
 off_if false is = cc
 
-module _ {S : Type 0} (is_dry : S → Type 0) (old new : Connection S) where
+module _ {S T : Type 0} (is_dry : S → Type 0) (old new : Connection S T) where
   pub reads_as_before : new.readiness ≡ old.readiness → ReadsOn is_dry old new
   reads_as_before same = (
     λ off. inl (sym (ap (λ (r : Readiness). r.readable) same) ∙ off),
@@ -36,7 +36,7 @@ module _ {S : Type 0} (is_dry : S → Type 0) (old new : Connection S) where
     ap (λ (r : Readiness). r.writable) same,
   )
 
-module _ {S : Type 0} (is_full : S → Type 0) (old new : Connection S) where
+module _ {S T : Type 0} (is_full : S → Type 0) (old new : Connection S T) where
   pub writes_as_before : new.readiness ≡ old.readiness → WritesOn is_full old new
   writes_as_before same = (
     λ off. inl (sym (ap (λ (r : Readiness). r.writable) same) ∙ off),

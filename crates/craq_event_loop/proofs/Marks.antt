@@ -7,7 +7,7 @@ use Rattle.std.proofs.lemmas.List.{take_all}
 use Rattle.slab.specs.Slab.{Slab, get, with_value}
 use Rattle.slab.proofs.SlabLemmas.{Updates-with_value}
 use Rattle.craq_completions.specs.declared.token.Token.{Token}
-use Rattle.craq_session.specs.Asking.{Submitting}
+use Rattle.craq_session.specs.Asking.{Calling}
 use Rattle.craq_session.specs.Turns.{Refusing}
 use Rattle.craq_event_loop.specs.declared.connection.Connection.{Connection}
 use Rattle.craq_event_loop.specs.Advancing.{HasRoundAt, TakeRounds, most_steps}
@@ -26,46 +26,46 @@ pushed ok old more new is on = rw on at is
 pub zero_if : (reported : Bool) (n : ℕ) → reported ≡ (n == 0) → reported ≡ true → n ≡ 0
 zero_if reported n is on = let both : (n == 0) ≡ true = sym is ∙ on in grind (arith, nat_tests)
 
-module _ {S : Type 0} where
-  others_with : (s : Slab (Connection S)) (key : ℕ) (c d : Connection S) → get s key ≡ Some c → OthersStay s (with_value s key d) key
+module _ {S T : Type 0} where
+  others_with : (s : Slab (Connection S T)) (key : ℕ) (c d : Connection S T) → get s key ≡ Some c → OthersStay s (with_value s key d) key
   others_with s key c d was = (Updates-with_value s key d (rw was refl)).others
 
-  found_with : (s : Slab (Connection S)) (key : ℕ) (c d : Connection S) → get s key ≡ Some c → get (with_value s key d) key ≡ Some d
+  found_with : (s : Slab (Connection S T)) (key : ℕ) (c d : Connection S T) → get s key ≡ Some c → get (with_value s key d) key ≡ Some d
   found_with s key c d was = (Updates-with_value s key d (rw was refl)).changed
 
   -- a connection that changes and keeps its mark
-  pub same_listed : (s : Slab (Connection S)) (busy later : Vec ℕ Global) (key : ℕ) (c d : Connection S) → ListsMarked s busy later
+  pub same_listed : (s : Slab (Connection S T)) (busy later : Vec ℕ Global) (key : ℕ) (c d : Connection S T) → ListsMarked s busy later
       → get s key ≡ Some c → d.busy ≡ c.busy → ListsMarked (with_value s key d) busy later
   same_listed s busy later key c d l was same =
-      let kept : (e : Connection S) → get s key ≡ Some e → (f : Connection S) × (get (with_value s key d) key ≡ Some f) × (f.busy ≡ e.busy) =
-      λ e here. (let is : e ≡ c = cc in (d, found_with s key c d was, same ∙ sym (ap (λ (x : Connection S). x.busy) is))) in
+      let kept : (e : Connection S T) → get s key ≡ Some e → (f : Connection S T) × (get (with_value s key d) key ≡ Some f) × (f.busy ≡ e.busy) =
+      λ e here. (let is : e ≡ c = cc in (d, found_with s key c d was, same ∙ sym (ap (λ (x : Connection S T). x.busy) is))) in
       let vacant : StaysVacant s (with_value s key d) key = λ none. cc in
       listed_still s (with_value s key d) busy later (marks_alone s (with_value s key d) key kept vacant (others_with s key c d was)) l
 
   -- a connection that was not marked is, and its key is pushed
-  pub more_listed : (s : Slab (Connection S)) (busy more later : Vec ℕ Global) (key : ℕ) (c d : Connection S) → ListsMarked s busy later
+  pub more_listed : (s : Slab (Connection S T)) (busy more later : Vec ℕ Global) (key : ℕ) (c d : Connection S T) → ListsMarked s busy later
       → get s key ≡ Some c → c.busy ≡ false → d.busy ≡ true → more.items ≡ busy.items ++ key ∷ [] → vec_capacity busy ≤ vec_capacity more
       → ListsMarked (with_value s key d) more later
   more_listed s busy more later key c d l was unmarked marked is grows =
       listed_more s (with_value s key d) busy more later key c l was unmarked (ap is_marked (found_with s key c d was) ∙ marked) (others_with s key c d was) is grows
 
-  pub marked_by : (c d : Connection S) → d ≡ record c { busy = true } → d.busy ≡ true
-  marked_by c d is = ap (λ (x : Connection S). x.busy) is
+  pub marked_by : (c d : Connection S T) → d ≡ record c { busy = true } → d.busy ≡ true
+  marked_by c d is = ap (λ (x : Connection S T). x.busy) is
 
   -- a push for which there is room
-  pub room_to_wake : (s : Slab (Connection S)) (busy later : Vec ℕ Global) (key : ℕ) (c : Connection S) → ListsMarked s busy later
+  pub room_to_wake : (s : Slab (Connection S T)) (busy later : Vec ℕ Global) (key : ℕ) (c : Connection S T) → ListsMarked s busy later
       → get s key ≡ Some c → c.busy ≡ false → length busy.items < vec_capacity busy
   room_to_wake s busy later key c l was unmarked = has_room s busy later key l (rw was refl) (rw was unmarked)
 
   -- the list with the key of a connection that was not marked, and of one that was
-  pub key_comes : (keys : List ℕ) (key : ℕ) (o : Option (Connection S)) (c : Connection S) → o ≡ Some c → c.busy ≡ false → with_key keys key o ≡ keys ++ key ∷ []
+  pub key_comes : (keys : List ℕ) (key : ℕ) (o : Option (Connection S T)) (c : Connection S T) → o ≡ Some c → c.busy ≡ false → with_key keys key o ≡ keys ++ key ∷ []
   key_comes keys key o c was unmarked = rw (was, unmarked) refl
 
-  pub keys_stay : (keys : List ℕ) (key : ℕ) (o : Option (Connection S)) (c : Connection S) → o ≡ Some c → c.busy ≡ true → with_key keys key o ≡ keys
+  pub keys_stay : (keys : List ℕ) (key : ℕ) (o : Option (Connection S T)) (c : Connection S T) → o ≡ Some c → c.busy ≡ true → with_key keys key o ≡ keys
   keys_stay keys key o c was marked = rw (was, marked) refl
 
   -- where the list names the connections that are behind, and names none, none is
-  pub none_is_behind : (s : Slab (Connection S)) (busy : Vec ℕ Global) (key : ℕ) (c : Connection S) → ListsBehind s busy.items → busy.len ≡ 0
+  pub none_is_behind : (s : Slab (Connection S T)) (busy : Vec ℕ Global) (key : ℕ) (c : Connection S T) → ListsBehind s busy.items → busy.len ≡ 0
       → get s key ≡ Some c → IsBehind c → ⊥
   none_is_behind s busy key c l none here is =
       let listed : Contains busy.items key = (l key).1 (c, here, is) in
@@ -73,7 +73,7 @@ module _ {S : Type 0} where
       omega (arith, listed.1, none, long)
 
   -- one key more was gone through, and was kept or not
-  pub kept_or_not : (keys kept more : List ℕ) (index key : ℕ) (s t : Slab (Connection S)) (reported : Bool) → AllPairs (λ x y. x ≢ y) keys → index < length keys
+  pub kept_or_not : (keys kept more : List ℕ) (index key : ℕ) (s t : Slab (Connection S T)) (reported : Bool) → AllPairs (λ x y. x ≢ y) keys → index < length keys
       → key ≡ get_or keys index 0 → kept ≡ filter (λ k. is_marked (get s k)) (take index keys) → OthersStay s t key → reported ≡ is_marked (get t key)
       → more ≡ (if reported then kept ++ key ∷ [] else kept) → more ≡ filter (λ k. is_marked (get t k)) (take (index + 1) keys)
   kept_or_not keys kept more index key s t true once within at is others tells now = one_kept keys kept more index key s t once within at is others (sym tells) now
@@ -81,14 +81,14 @@ module _ {S : Type 0} where
       subst (λ (x : List ℕ). x ≡ filter (λ k. is_marked (get t k)) (take (index + 1) keys)) (sym now) (one_left_out keys kept index key s t once within at is others (sym tells))
 
   -- the keys kept of the busy list so far are those of marked connections, and there is room for them
-  pub record KeptSoFar (s t : Slab (Connection S)) (busy later kept : Vec ℕ Global) (keys : List ℕ) (index : ℕ) : Type 0 where
+  pub record KeptSoFar (s t : Slab (Connection S T)) (busy later kept : Vec ℕ Global) (keys : List ℕ) (index : ℕ) : Type 0 where
     pub are : kept.items ≡ filter (λ key. is_marked (get t key)) (take index keys)
     pub grows : vec_capacity later ≤ vec_capacity kept
 
-  pub none_kept : (s : Slab (Connection S)) (busy later : Vec ℕ Global) (keys : List ℕ) → ListsMarked s busy later → KeptSoFar s s busy later later keys 0
+  pub none_kept : (s : Slab (Connection S T)) (busy later : Vec ℕ Global) (keys : List ℕ) → ListsMarked s busy later → KeptSoFar s s busy later later keys 0
   none_kept s busy later keys l = record { are = l.none_later; grows = omega arith }
 
-  pub kept_next : (s t u : Slab (Connection S)) (busy later kept more : Vec ℕ Global) (keys : List ℕ) (index : ℕ) (reported : Bool) → ListsMarked s busy later
+  pub kept_next : (s t u : Slab (Connection S T)) (busy later kept more : Vec ℕ Global) (keys : List ℕ) (index : ℕ) (reported : Bool) → ListsMarked s busy later
       → keys ≡ busy.items → index < length keys → KeptSoFar s t busy later kept keys index → OthersStay t u (get_or keys index 0)
       → reported ≡ is_marked (get u (get_or keys index 0))
       → (kept.len < vec_capacity kept → more.items ≡ (if reported then kept.items ++ get_or keys index 0 ∷ [] else kept.items)) → vec_capacity kept ≤ vec_capacity more
@@ -105,13 +105,13 @@ module _ {S : Type 0} where
       }
 
   -- all of the busy list was gone through
-  pub kept_all : (s t : Slab (Connection S)) (busy later kept new : Vec ℕ Global) (keys : List ℕ) (index : ℕ) → keys ≡ busy.items → length keys ≤ index
+  pub kept_all : (s t : Slab (Connection S T)) (busy later kept new : Vec ℕ Global) (keys : List ℕ) (index : ℕ) → keys ≡ busy.items → length keys ≤ index
       → KeptSoFar s t busy later kept keys index → new ≡ kept → new.items ≡ filter (λ key. is_marked (get t key)) busy.items
   kept_all s t busy later kept new keys index is past k same =
       ap (λ (v : Vec ℕ Global). v.items) same ∙ all_kept keys kept.items index (λ key. is_marked (get t key)) past k.are ∙ ap (filter (λ key. is_marked (get t key))) is
 
   -- all of the busy list was gone through, and what was kept of it takes its place
-  pub all_listed : (happens : Slab (Connection S) → Slab (Connection S) → ℕ → Type 0) (s t : Slab (Connection S)) (busy later kept cleared new_busy new_later : Vec ℕ Global)
+  pub all_listed : (happens : Slab (Connection S T) → Slab (Connection S T) → ℕ → Type 0) (s t : Slab (Connection S T)) (busy later kept cleared new_busy new_later : Vec ℕ Global)
       (keys : List ℕ) (index : ℕ) → ListsMarked s busy later → keys ≡ busy.items → length keys ≤ index → OneByOne happens (take index keys) s t
       → KeptSoFar s t busy later kept keys index → cleared.items ≡ [] → vec_capacity cleared ≡ vec_capacity busy → new_busy ≡ kept → new_later ≡ cleared
       → ListsMarked t new_busy new_later
@@ -122,37 +122,37 @@ module _ {S : Type 0} where
       listed_after happens s t busy later new_busy new_later l whole (kept_all s t busy later kept new_busy keys index is past k same)
       (ap (λ (v : Vec ℕ Global). v.items) same_later ∙ none) grows (omega (arith, room))
 
-  on_if_there : (mid t : Slab (Connection S)) (key : ℕ) (o : Option (Connection S)) → get mid key ≡ o → Wakes mid t key → StaysVacant mid t key
-      → (c : Connection S) → get t key ≡ Some c → c.busy ≡ true
+  on_if_there : (mid t : Slab (Connection S T)) (key : ℕ) (o : Option (Connection S T)) → get mid key ≡ o → Wakes mid t key → StaysVacant mid t key
+      → (c : Connection S T) → get t key ≡ Some c → c.busy ≡ true
   on_if_there mid t key None was wakes vacant c here = (let no : get t key ≡ None = vacant was in cc)
-  on_if_there mid t key (Some d) was wakes vacant c here = (let is : get t key ≡ Some (record d { busy = true }) = wakes d was in let same : c ≡ record d { busy = true } = cc in (ap (λ (x : Connection S). x.busy) same))
+  on_if_there mid t key (Some d) was wakes vacant c here = (let is : get t key ≡ Some (record d { busy = true }) = wakes d was in let same : c ≡ record d { busy = true } = cc in (ap (λ (x : Connection S T). x.busy) same))
 
   -- a connection that changed is woken
-  pub behind_woken : (s mid t : Slab (Connection S)) (key : ℕ) → MarksBehind s → OthersStay s mid key
+  pub behind_woken : (s mid t : Slab (Connection S T)) (key : ℕ) → MarksBehind s → OthersStay s mid key
       → Wakes mid t key → StaysVacant mid t key → OthersStay mid t key → MarksBehind t
   behind_woken s mid t key marks before wakes vacant after =
       behind_still s t key marks (λ other differs. after other differs ∙ before other differs) (on_if_there mid t key (get mid key) refl wakes vacant)
 
-  pub behind_changed : (s t : Slab (Connection S)) (key : ℕ) (c d : Connection S) → MarksBehind s → get s key ≡ Some c
+  pub behind_changed : (s t : Slab (Connection S T)) (key : ℕ) (c d : Connection S T) → MarksBehind s → get s key ≡ Some c
       → Wakes (with_value s key d) t key → StaysVacant (with_value s key d) t key → OthersStay (with_value s key d) t key → MarksBehind t
   behind_changed s t key c d marks was = behind_woken s (with_value s key d) t key marks (others_with s key c d was)
 
-module _ {S : Type 0} (remaining contents : S → Option (List ℕ)) (is_over is_dry is_full : S → Type 0) (tells : List ℕ → Type 0) (refuses : Refusing) (submits : Token → Submitting) where
-  keeps_read : KeepsMarks (ReadsAt remaining contents is_over is_dry is_full)
+module _ {S T : Type 0} (remaining contents : S → Option (List ℕ)) (is_over is_dry is_full : S → Type 0) (tells : List ℕ → Type 0) (refuses : Refusing) (submits : Token → Calling T) where
+  keeps_read : KeepsMarks {S = S} {T = T} (ReadsAt remaining contents is_over is_dry is_full)
   keeps_read s t key reads c was = ((reads c was).0, (reads c was).1, (reads c was).2.busy)
 
-  keeps_turned : (most : ℕ) → KeepsMarks {S = S} (λ s t key. HasRoundAt most tells refuses submits s t key)
+  keeps_turned : (most : ℕ) → KeepsMarks {S = S} {T = T} (λ s t key. HasRoundAt most tells refuses submits s t key)
   keeps_turned most s t key round c was = ((round c was).0, (round c was).1, (round c was).5)
 
   -- a mark that is set after a write is right
-  right_at : (s t : Slab (Connection S)) (key : ℕ) (o : Option (Connection S)) → get s key ≡ o → Alone (WritesAt remaining contents is_over is_dry is_full) s t key → IsRightAt t key
+  right_at : (s t : Slab (Connection S T)) (key : ℕ) (o : Option (Connection S T)) → get s key ≡ o → Alone (WritesAt remaining contents is_over is_dry is_full) s t key → IsRightAt t key
   right_at s t key None was alone d here = (let no : get t key ≡ None = alone.1 was in cc)
   right_at s t key (Some c) was alone d here =
-      let stays : StaysUnlessDone (alone.0 c was).0 (Some d) = subst (λ (o : Option (Connection S)). StaysUnlessDone (alone.0 c was).0 o) here (alone.0 c was).2 in
-      subst (λ (x : Connection S). d.busy ≡ true ↔ IsBehind x) (sym stays.1) stays.2
+      let stays : StaysUnlessDone (alone.0 c was).0 (Some d) = subst (λ (o : Option (Connection S T)). StaysUnlessDone (alone.0 c was).0 o) here (alone.0 c was).2 in
+      subst (λ (x : Connection S T). d.busy ≡ true ↔ IsBehind x) (sym stays.1) stays.2
 
   -- the list is right of the connections that have read and had their turns
-  pub listed_stepped : (s r a : Slab (Connection S)) (busy later : Vec ℕ Global) → ListsMarked s busy later
+  pub listed_stepped : (s r a : Slab (Connection S T)) (busy later : Vec ℕ Global) → ListsMarked s busy later
       → OneByOne (ReadsAt remaining contents is_over is_dry is_full) busy.items s r → TakeRounds tells refuses submits busy.items r a → ListsMarked a busy later
   listed_stepped s r a busy later l reads rounds =
       listed_still s a busy later
@@ -161,7 +161,7 @@ module _ {S : Type 0} (remaining contents : S → Option (List ℕ)) (is_over is
       l
 
   -- all marks are right once the connections of the list were served
-  pub all_right : (s r a t : Slab (Connection S)) (busy later : Vec ℕ Global) → ListsMarked s busy later → MarksBehind s
+  pub all_right : (s r a t : Slab (Connection S T)) (busy later : Vec ℕ Global) → ListsMarked s busy later → MarksBehind s
       → OneByOne (ReadsAt remaining contents is_over is_dry is_full) busy.items s r → TakeRounds tells refuses submits busy.items r a
       → OneByOne (WritesAt remaining contents is_over is_dry is_full) busy.items a t → (key : ℕ) → IsRightAt t key
   all_right s r a t busy later l behind reads rounds writes =
@@ -171,11 +171,11 @@ module _ {S : Type 0} (remaining contents : S → Option (List ℕ)) (is_over is
       ∙ untouched (ReadsAt remaining contents is_over is_dry is_full) busy.items s r key reads not))
       (λ key listed. right_after (WritesAt remaining contents is_over is_dry is_full) (λ s t key. right_at s t key (get s key) refl) busy.items a t key writes listed)
 
-  pub marks_behind : (t : Slab (Connection S)) → ((key : ℕ) → IsRightAt t key) → MarksBehind t
+  pub marks_behind : (t : Slab (Connection S T)) → ((key : ℕ) → IsRightAt t key) → MarksBehind t
   marks_behind t right key c here is = (right key c here).1 is
 
   -- lists of marked connections stay so after reads and rounds that return both lists unchanged
-  pub listed_handed : (s r a : Slab (Connection S)) (busy later busy_read later_read busy_stepped later_stepped : Vec ℕ Global) → ListsMarked s busy later
+  pub listed_handed : (s r a : Slab (Connection S T)) (busy later busy_read later_read busy_stepped later_stepped : Vec ℕ Global) → ListsMarked s busy later
       → OneByOne (ReadsAt remaining contents is_over is_dry is_full) busy.items s r → busy_read ≡ busy → later_read ≡ later
       → TakeRounds tells refuses submits busy_read.items r a → busy_stepped ≡ busy_read → later_stepped ≡ later_read → ListsMarked a busy_stepped later_stepped
   listed_handed s r a busy later busy_read later_read busy_stepped later_stepped l reads is is_later rounds is_too is_later_too =
@@ -185,7 +185,7 @@ module _ {S : Type 0} (remaining contents : S → Option (List ℕ)) (is_over is
       (subst (λ (v : Vec ℕ Global). ListsMarked a busy v) (sym same_later)
       (listed_stepped s r a busy later l reads (subst (λ (v : Vec ℕ Global). TakeRounds tells refuses submits v.items r a) is rounds)))
 
-  pub right_handed : (s r a t : Slab (Connection S)) (busy later busy_read busy_stepped : Vec ℕ Global) → ListsMarked s busy later → MarksBehind s
+  pub right_handed : (s r a t : Slab (Connection S T)) (busy later busy_read busy_stepped : Vec ℕ Global) → ListsMarked s busy later → MarksBehind s
       → OneByOne (ReadsAt remaining contents is_over is_dry is_full) busy.items s r → busy_read ≡ busy
       → TakeRounds tells refuses submits busy_read.items r a → busy_stepped ≡ busy_read
       → OneByOne (WritesAt remaining contents is_over is_dry is_full) busy_stepped.items a t → (key : ℕ) → IsRightAt t key

@@ -5,18 +5,18 @@ use Rattle.std.proofs.lemmas.List.{append_assoc}
 use Rattle.std.proofs.lemmas.List.Elements.{All-cons, All-nil}
 use Rattle.std.proofs.lemmas.List.Kept.{AllPairs-cons}
 use Rattle.std.proofs.lemmas.Bool.{cases_lt}
-use Rattle.craq_session.specs.Asking.{Submitting}
+use Rattle.craq_session.specs.Asking.{Calling}
 use Rattle.craq_session.specs.Turns.{Refusing}
 use Rattle.craq_session.specs.declared.connection_state.ConnectionState.{ConnectionState}
 use Rattle.craq_event_loop.specs.Advancing.{TakesSteps, none, step, call, asked_in, next_call, numbers_after}
 
-module _ (tells : List ℕ → Type 0) (refuses : Refusing) (submits : ℕ → Submitting) (old : ConnectionState) (before : ℕ) where
+module _ {T : Type 0} (tells : List ℕ → Type 0) (refuses : Refusing) (submits : ℕ → Calling T) (old : ConnectionState T) (before : ℕ) where
   -- the numbers that the calls of some steps had, and those of the calls after them, are those after the number before
-  pub in_order : (new : ConnectionState) (count after more : ℕ) (taken : TakesSteps tells refuses submits old before count new after)
+  pub in_order : (new : ConnectionState T) (count after more : ℕ) (taken : TakesSteps tells refuses submits old before count new after)
       → asked_in taken ++ numbers_after after more ≡ numbers_after before (length (asked_in taken) + more)
   in_order _ _ _ more none = ap (λ (x : ℕ). numbers_after before x) (omega arith)
-  in_order _ _ _ more (step n mid new number stepped taken no_call took) = in_order mid n number more taken
-  in_order _ _ _ more (call n mid made new number unsent taken took asked) =
+  in_order _ _ _ more (step n mid new number stepped taken no_call took same) = in_order mid n number more taken
+  in_order _ _ _ more (call n mid made new number unsent taken took same asked) =
       append_assoc (asked_in taken) (next_call number ∷ []) (numbers_after (next_call number) more)
       ∙ in_order mid n number (suc more) taken
       ∙ ap (λ (x : ℕ). numbers_after before x) (omega (arith, length-append (asked_in taken) (next_call number ∷ [])))

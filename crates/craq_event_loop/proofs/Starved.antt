@@ -70,7 +70,7 @@ module _ (tells : List ℕ → Type 0) where
   step_starved more p q t u c d took off = ∣ took_starved p q t u c d took ∣₁
 
 -- a connection that is not behind leaves no frame
-none_left : {S : Type 0} (c : Connection S) → ¬ (IsBehind c) → LeavesNoFrame c
+none_left : {S T : Type 0} (c : Connection S T) → ¬ (IsBehind c) → LeavesNoFrame c
 none_left c rests on empty free = by_more c.more refl
   where
     by_more : (b : Bool) → c.more ≡ b → ∥ IsStarved c.state.phase c.state.codec.buffers.input.items ∥₁
@@ -78,7 +78,7 @@ none_left c rests on empty free = by_more c.more refl
     by_more false is = c.unread is
 
 -- where the busy list is empty no connection is behind, and none leaves a frame
-pub none_is_left : {S : Type 0} (s : Slab (Connection S)) (busy : Vec ℕ Global) → ListsBehind s busy.items → busy.len ≡ 0 → NoneBehind s
+pub none_is_left : {S T : Type 0} (s : Slab (Connection S T)) (busy : Vec ℕ Global) → ListsBehind s busy.items → busy.len ≡ 0 → NoneBehind s
 none_is_left s busy lists none key c here =
     let rests : ¬ (IsBehind c) = λ is. none_is_behind s busy key c lists none here is in
     (rests, none_left c rests)

@@ -4,7 +4,7 @@ use Rattle.slab.specs.Slab.{Slab, get}
 use Rattle.craq_names.specs.declared.refusal.Refusal.{Refusal}
 use Rattle.craq_seat.specs.Calls.{Called}
 use Rattle.craq_completions.specs.declared.token.Token.{Token}
-use Rattle.craq_session.specs.Asking.{MayHaveAny, Submitting}
+use Rattle.craq_session.specs.Asking.{Calling, MayHaveAny}
 use Rattle.craq_session.specs.ConnectionStates.{Took}
 use Rattle.craq_session.specs.Halves.{IsRefusable}
 use Rattle.craq_session.specs.Turns.{Refusing}
@@ -27,17 +27,21 @@ numbers_after number zero = []
 numbers_after number (suc count) = next_call number ∷ numbers_after (next_call number) count
 
 -- a submission under the key of a connection, by the number of its call
-abbrev pub under_key : (Token → Submitting) → ℕ → ℕ → Submitting
+abbrev pub under_key : {T : Type 0} → (Token → Calling T) → ℕ → ℕ → Calling T
 under_key submits key number = submits (record { connection = key; call = number })
+
+-- nothing of the connection state changed but its session
+abbrev pub ChangesSession : {T : Type 0} → ConnectionState T → ConnectionState T → Type 0
+ChangesSession old new = (new.phase ≡ old.phase) × (new.codec ≡ old.codec) × (new.calls ≡ old.calls)
 
 -- the backend got the call that is under way. Nothing came at once: it still is under way, and may have any refusal that a completion
 -- can bring; or this outcome came at once: the call came back so, and is refused only as it may be. Where none was under way nothing
 -- happened
-abbrev pub AsksBackend : Refusing → Submitting → Phase → ConnectionState → ConnectionState → Type 0
+abbrev pub AsksBackend : {T : Type 0} → Refusing → Calling T → Phase → ConnectionState T → ConnectionState T → Type 0
 AsksBackend refuses submits (phases.Waits q) old new =
-    (submits q None × MayHaveAny refuses q × (new ≡ old))
-    ⊎ ((outcome : Result Called Refusal) × submits q (Some outcome) × IsRefusable refuses q outcome × CameBack outcome old new)
-AsksBackend refuses submits phase old new = new ≡ old
+    (submits q old.session None new.session × MayHaveAny refuses q × ChangesSession old new)
+    ⊎ ((outcome : Result Called Refusal) × submits q old.session (Some outcome) new.session × IsRefusable refuses q outcome × CameBack outcome old new)
+AsksBackend refuses submits phase old new = (new.session ≡ old.session) × ChangesSession old new
 
 -- a step after which no call is to be made
 abbrev pub IsNoCall : Stepped → Type 0
@@ -45,24 +49,24 @@ IsNoCall (steps.Calls unsent) = ⊥
 IsNoCall stepped = ⊤
 
 -- the connection state took `count` steps. Its backend got each call as soon as a step made it, under the number after that of the
--- call before; nothing else happened to the state. `before` is the number of the last call before these steps, and the last number
+-- call before; nothing else happened to the state, and its session changed only in calls. `before` is the number of the last call before these steps, and the last number
 -- is that of the last call after them
-pub data TakesSteps (tells : List ℕ → Type 0) (refuses : Refusing) (submits : ℕ → Submitting) (old : ConnectionState) (before : ℕ) : ℕ → ConnectionState → ℕ → Type 0 where
+pub data TakesSteps {T : Type 0} (tells : List ℕ → Type 0) (refuses : Refusing) (submits : ℕ → Calling T) (old : ConnectionState T) (before : ℕ) : ℕ → ConnectionState T → ℕ → Type 0 where
   none : TakesSteps tells refuses submits old before 0 old before
-  step : (count : ℕ) (mid new : ConnectionState) (number : ℕ) (stepped : Stepped) → TakesSteps tells refuses submits old before count mid number
-      → IsNoCall stepped → Took tells mid.phase stepped new.phase mid.codec new.codec mid.calls new.calls
+  step : (count : ℕ) (mid new : ConnectionState T) (number : ℕ) (stepped : Stepped) → TakesSteps tells refuses submits old before count mid number
+      → IsNoCall stepped → Took tells mid.phase stepped new.phase mid.codec new.codec mid.calls new.calls → new.session ≡ mid.session
       → TakesSteps tells refuses submits old before (count + 1) new number
-  call : (count : ℕ) (mid made new : ConnectionState) (number : ℕ) (unsent : UnsentCall) → TakesSteps tells refuses submits old before count mid number
-      → Took tells mid.phase (steps.Calls unsent) made.phase mid.codec made.codec mid.calls made.calls
+  call : (count : ℕ) (mid made new : ConnectionState T) (number : ℕ) (unsent : UnsentCall) → TakesSteps tells refuses submits old before count mid number
+      → Took tells mid.phase (steps.Calls unsent) made.phase mid.codec made.codec mid.calls made.calls → made.session ≡ mid.session
       → AsksBackend refuses (submits (next_call number)) made.phase made new
       → TakesSteps tells refuses submits old before (count + 1) new (next_call number)
 
 -- the numbers of the calls that were asked in these steps, in order
-abbrev pub asked_in : {tells : List ℕ → Type 0} {refuses : Refusing} {submits : ℕ → Submitting} {old : ConnectionState} {before : ℕ} {count : ℕ} {new : ConnectionState} {after : ℕ}
+abbrev pub asked_in : {T : Type 0} {tells : List ℕ → Type 0} {refuses : Refusing} {submits : ℕ → Calling T} {old : ConnectionState T} {before : ℕ} {count : ℕ} {new : ConnectionState T} {after : ℕ}
     → TakesSteps tells refuses submits old before count new after → List ℕ
 asked_in none = []
-asked_in (step count mid new number stepped taken no_call took) = asked_in taken
-asked_in (call count mid made new number unsent taken took asked) = asked_in taken ++ next_call number ∷ []
+asked_in (step count mid new number stepped taken no_call took same) = asked_in taken
+asked_in (call count mid made new number unsent taken took same asked) = asked_in taken ++ next_call number ∷ []
 
 -- the most steps that a connection takes in a round before others have their turn
 abbrev pub most_steps : ℕ
@@ -76,24 +80,25 @@ IsLast stepped = ⊥
 
 -- the connection state had its round: it took steps until one found nothing more to do, or the most that it may take; before and after it
 -- the call asked last had these numbers
-pub data TakesRound (most : ℕ) (tells : List ℕ → Type 0) (refuses : Refusing) (submits : ℕ → Submitting) (old : ConnectionState) (before : ℕ) (new : ConnectionState) (after : ℕ) : Type 0 where
-  rests : (count : ℕ) (mid : ConnectionState) (stepped : Stepped) → TakesSteps tells refuses submits old before count mid after
-      → IsLast stepped → Took tells mid.phase stepped new.phase mid.codec new.codec mid.calls new.calls → TakesRound most tells refuses submits old before new after
+pub data TakesRound {T : Type 0} (most : ℕ) (tells : List ℕ → Type 0) (refuses : Refusing) (submits : ℕ → Calling T) (old : ConnectionState T) (before : ℕ) (new : ConnectionState T) (after : ℕ) : Type 0 where
+  rests : (count : ℕ) (mid : ConnectionState T) (stepped : Stepped) → TakesSteps tells refuses submits old before count mid after
+      → IsLast stepped → Took tells mid.phase stepped new.phase mid.codec new.codec mid.calls new.calls → new.session ≡ mid.session
+      → TakesRound most tells refuses submits old before new after
   gives_way : TakesSteps tells refuses submits old before most new after → TakesRound most tells refuses submits old before new after
 
 -- the round of a connection: where it is over it asks nothing, and its connection state is unchanged
-abbrev pub HasRound : ℕ → (List ℕ → Type 0) → Refusing → (ℕ → Submitting) → Bool → ConnectionState → ℕ → ConnectionState → ℕ → Type 0
+abbrev pub HasRound : {T : Type 0} → ℕ → (List ℕ → Type 0) → Refusing → (ℕ → Calling T) → Bool → ConnectionState T → ℕ → ConnectionState T → ℕ → Type 0
 HasRound most tells refuses submits true old before new after = (new ≡ old) × (after ≡ before)
 HasRound most tells refuses submits false old before new after = TakesRound most tells refuses submits old before new after
 
 -- under this key, the connection had its round: its backend got each call under this key and the number after that of the call before.
 -- Its socket, its mark, its slot and its readiness are unchanged, and so is whether it is over
-abbrev pub HasRoundAt : {S : Type 0} → ℕ → (List ℕ → Type 0) → Refusing → (Token → Submitting) → Slab (Connection S) → Slab (Connection S) → ℕ → Type 0
-HasRoundAt {S} most tells refuses submits old new key =
-    (c : Connection S) → get old key ≡ Some c
-    → (d : Connection S) × (get new key ≡ Some d) × HasRound most tells refuses (under_key submits key) c.over c.state c.calls d.state d.calls × (d.stream ≡ c.stream) × (d.over ≡ c.over) × (d.busy ≡ c.busy) × KeepsSlot c d × (d.readiness ≡ c.readiness)
+abbrev pub HasRoundAt : {S T : Type 0} → ℕ → (List ℕ → Type 0) → Refusing → (Token → Calling T) → Slab (Connection S T) → Slab (Connection S T) → ℕ → Type 0
+HasRoundAt {S} {T} most tells refuses submits old new key =
+    (c : Connection S T) → get old key ≡ Some c
+    → (d : Connection S T) × (get new key ≡ Some d) × HasRound most tells refuses (under_key submits key) c.over c.state c.calls d.state d.calls × (d.stream ≡ c.stream) × (d.over ≡ c.over) × (d.busy ≡ c.busy) × KeepsSlot c d × (d.readiness ≡ c.readiness)
 
 -- the connections under these keys have their rounds, one after another, in which the backend gets calls under their own keys; and
 -- no other connection changes
-abbrev pub TakeRounds : {S : Type 0} → (List ℕ → Type 0) → Refusing → (Token → Submitting) → List ℕ → Slab (Connection S) → Slab (Connection S) → Type 0
+abbrev pub TakeRounds : {S T : Type 0} → (List ℕ → Type 0) → Refusing → (Token → Calling T) → List ℕ → Slab (Connection S T) → Slab (Connection S T) → Type 0
 TakeRounds tells refuses submits keys old new = OneByOne (λ mid next key. HasRoundAt most_steps tells refuses submits mid next key) keys old new

@@ -1,5 +1,5 @@
 -- Bytes and completions of each connection.
-use Rattle.std.specs.Prelude.{◌≡◌, ◌≢◌, ◌⊎◌, ℕ, true, false, List, [], ◌∷◌, ◌++◌, Option, None, Some, Result}
+use Rattle.std.specs.Prelude.{◌≡◌, ◌≢◌, ◌⊎◌, ℕ, true, false, List, [], ◌∷◌, ◌++◌, Option, None, Some, Result, reverse}
 use Rattle.std.specs.Io.KnownBytes.{Appends, Consumes}
 use Rattle.slab.specs.Slab.{Slab, get}
 use Rattle.craq_names.specs.declared.refusal.Refusal.{Refusal}
@@ -7,14 +7,14 @@ use Rattle.craq_front.specs.Talk.{History}
 use Rattle.craq_seat.specs.Calls.{Called}
 use Rattle.craq_completions.specs.declared.queue_state.Completion.{Completion}
 use Rattle.craq_completions.specs.declared.token.Token.{Token}
+use Rattle.craq_session.specs.Asking.{Finishing, IsOutcome}
 use Rattle.craq_session.specs.ConnectionStates.{AnswersCall, Holds}
 use Rattle.craq_session.specs.declared.connection_state.ConnectionState.{ConnectionState}
 use Rattle.craq_session.specs.declared.connection_state.Phase.TheVariants as phases
 use Rattle.craq_event_loop.specs.declared.connection.Connection.{Connection}
-use Rattle.craq_event_loop.specs.Completions.{IsOutcome}
 
 -- the connection is new: no byte came and none is unsent, no call was asked, and its socket counts as ready
-pub record IsNew {S : Type 0} (c : Connection S) : Type 0 where
+pub record IsNew {S T : Type 0} (c : Connection S T) : Type 0 where
   pub nothing_came : Holds c.state.phase c.state.codec [] [] []
   pub idle : c.state.phase ≡ phases.Idle
   pub calls : c.calls ≡ 0
@@ -24,61 +24,66 @@ pub record IsNew {S : Type 0} (c : Connection S) : Type 0 where
   pub unmarked : c.busy ≡ false
   pub goes_on : c.over ≡ false
 
--- the connection is the one that came so: this is its socket, this its place, and here the receipts of its calls go
-pub record CameAs {S : Type 0} (stream : S) (slot receipts : ℕ) (c : Connection S) : Type 0 where
+-- the connection is the one that came so: this is its socket, this its session, this its place, and here the receipts of its calls go
+pub record CameAs {S T : Type 0} (stream : S) (session : T) (slot receipts : ℕ) (c : Connection S T) : Type 0 where
   pub same_stream : c.stream ≡ stream
+  pub same_session : c.state.session ≡ session
   pub same_place : c.slot ≡ slot
   pub same_receipts : c.receipts ≡ receipts
 
--- just these bytes came to the connection state, behind those before; its unsent bytes and its calls are unchanged
-pub record Hears (came : List ℕ) (old new : ConnectionState) : Type 0 where
+-- just these bytes came to the connection state, behind those before; its unsent bytes, its calls and its session are unchanged
+pub record Hears {T : Type 0} (came : List ℕ) (old new : ConnectionState T) : Type 0 where
   pub heard : (read written : List ℕ) (rounds : History) → Holds old.phase old.codec read written rounds → Holds new.phase new.codec (read ++ came) written rounds
   pub unsent : new.codec.buffers.output.items ≡ old.codec.buffers.output.items
   pub calls : new.calls ≡ old.calls
+  pub session : new.session ≡ old.session
 
--- just these bytes, the first that were unsent, are written as far as the connection state knows; its phase and calls are unchanged
-pub record Gives (went : List ℕ) (old new : ConnectionState) : Type 0 where
+-- just these bytes, the first that were unsent, are written as far as the connection state knows; its phase, calls and session are
+-- unchanged
+pub record Gives {T : Type 0} (went : List ℕ) (old new : ConnectionState T) : Type 0 where
   pub given : (read written : List ℕ) (rounds : History) → Holds old.phase old.codec read written rounds → Holds new.phase new.codec read (written ++ went) rounds
   pub unsent : old.codec.buffers.output.items ≡ went ++ new.codec.buffers.output.items
   pub phase : new.phase ≡ old.phase
   pub calls : new.calls ≡ old.calls
+  pub session : new.session ≡ old.session
 
 -- the connection state got the bytes that a socket gave, in order and whole
-abbrev pub Reads : Option (List ℕ) → Option (List ℕ) → ConnectionState → ConnectionState → Type 0
+abbrev pub Reads : {T : Type 0} → Option (List ℕ) → Option (List ℕ) → ConnectionState T → ConnectionState T → Type 0
 Reads before after old new = (came : List ℕ) × Consumes before after came × Hears came old new
 
 -- a socket took the bytes that were unsent, in order and whole, and the connection state notes them as written
-abbrev pub Writes : Option (List ℕ) → Option (List ℕ) → ConnectionState → ConnectionState → Type 0
+abbrev pub Writes : {T : Type 0} → Option (List ℕ) → Option (List ℕ) → ConnectionState T → ConnectionState T → Type 0
 Writes before after old new = (went : List ℕ) × Appends before after went × Gives went old new
 
 -- some bytes came now, or none came and its last ones went when they did
-abbrev pub HearsNow : {S : Type 0} → ℕ → Connection S → Connection S → Type 0
+abbrev pub HearsNow : {S T : Type 0} → ℕ → Connection S T → Connection S T → Type 0
 HearsNow now old new =
     ((new.heard ≡ old.heard) × (new.state ≡ old.state))
     ⊎ ((new.heard ≡ now) × (came : List ℕ) × (came ≢ []) × Hears came old.state new.state)
 
 -- some bytes were taken now, or none were and its last ones went when they did
-abbrev pub GivesNow : {S : Type 0} → ℕ → Connection S → Connection S → Type 0
+abbrev pub GivesNow : {S T : Type 0} → ℕ → Connection S T → Connection S T → Type 0
 GivesNow now old new =
     ((new.heard ≡ old.heard) × (new.state ≡ old.state))
     ⊎ ((new.heard ≡ now) × (went : List ℕ) × (went ≢ []) × Gives went old.state new.state)
 
 -- the call of the connection state came back so
-abbrev pub CameBack : Result Called Refusal → ConnectionState → ConnectionState → Type 0
+abbrev pub CameBack : {T : Type 0} → Result Called Refusal → ConnectionState T → ConnectionState T → Type 0
 CameBack outcome old new = AnswersCall old.phase outcome new.phase old.codec new.codec old.calls new.calls
 
--- the call of the connection state came back by a completion that says this
-abbrev pub CameByCompletion : Result Called Refusal → ConnectionState → ConnectionState → Type 0
-CameByCompletion reply old new = (outcome : Result Called Refusal) × IsOutcome old.phase reply outcome × CameBack outcome old new
+-- the call of the connection state came back by a completion that says this: its session finished it
+abbrev pub CameByCompletion : {T R : Type 0} → Finishing T R → Result R Refusal → ConnectionState T → ConnectionState T → Type 0
+CameByCompletion finishes reply old new =
+    (outcome : Result Called Refusal) × IsOutcome finishes old.phase reply old.session outcome new.session × CameBack outcome old new
 
 -- it is the connection of the same place, and the receipts of its calls go where they went
-abbrev pub KeepsSlot : {S : Type 0} → Connection S → Connection S → Type 0
+abbrev pub KeepsSlot : {S T : Type 0} → Connection S T → Connection S T → Type 0
 KeepsSlot old new = (new.slot ≡ old.slot) × (new.receipts ≡ old.receipts)
 
 -- a completion under this number says this: under the number of the connection's last call, the connection state gets the outcome of
 -- its call; under another number nothing changes
-pub record TakesCompletion {S : Type 0} (number : ℕ) (reply : Result Called Refusal) (old new : Connection S) : Type 0 where
-  pub own : number ≡ old.calls → CameByCompletion reply old.state new.state
+pub record TakesCompletion {S T R : Type 0} (finishes : Finishing T R) (number : ℕ) (reply : Result R Refusal) (old new : Connection S T) : Type 0 where
+  pub own : number ≡ old.calls → CameByCompletion finishes reply old.state new.state
   pub another : number ≢ old.calls → new.state ≡ old.state
   pub calls : new.calls ≡ old.calls
   pub stream : new.stream ≡ old.stream
@@ -87,41 +92,42 @@ pub record TakesCompletion {S : Type 0} (number : ℕ) (reply : Result Called Re
   pub slot : KeepsSlot old new
 
 -- the connection whose key is in this token takes the completion under the number that is there
-abbrev pub Delivers : {S : Type 0} → Slab (Connection S) → Slab (Connection S) → Token → Result Called Refusal → Type 0
-Delivers {S} old new token reply =
-    (c : Connection S) → get old token.connection ≡ Some c
-    → (d : Connection S) × (get new token.connection ≡ Some d) × TakesCompletion token.call reply c d
+abbrev pub Delivers : {S T R : Type 0} → Finishing T R → Slab (Connection S T) → Slab (Connection S T) → Token → Result R Refusal → Type 0
+Delivers {S} {T} finishes old new token reply =
+    (c : Connection S T) → get old token.connection ≡ Some c
+    → (d : Connection S T) × (get new token.connection ≡ Some d) × TakesCompletion finishes token.call reply c d
 
 -- under this key, the connection has something to do from now on
-abbrev pub Wakes : {S : Type 0} → Slab (Connection S) → Slab (Connection S) → ℕ → Type 0
-Wakes {S} old new key = (c : Connection S) → get old key ≡ Some c → get new key ≡ Some (record c { busy = true })
+abbrev pub Wakes : {S T : Type 0} → Slab (Connection S T) → Slab (Connection S T) → ℕ → Type 0
+Wakes {S} {T} old new key = (c : Connection S T) → get old key ≡ Some c → get new key ≡ Some (record c { busy = true })
 
 -- where no connection is under this key, none is afterwards
-abbrev pub StaysVacant : {S : Type 0} → Slab (Connection S) → Slab (Connection S) → ℕ → Type 0
+abbrev pub StaysVacant : {S T : Type 0} → Slab (Connection S T) → Slab (Connection S T) → ℕ → Type 0
 StaysVacant old new key = get old key ≡ None → get new key ≡ None
 
 -- each connection under another key is as it was
-abbrev pub OthersStay : {S : Type 0} → Slab (Connection S) → Slab (Connection S) → ℕ → Type 0
+abbrev pub OthersStay : {S T : Type 0} → Slab (Connection S T) → Slab (Connection S T) → ℕ → Type 0
 OthersStay old new key = (other : ℕ) → other ≢ key → get new other ≡ get old other
 
 -- under this key, and no connection under another key changes; where none is under this key, none is afterwards
-abbrev pub Alone : {S : Type 0} → (Slab (Connection S) → Slab (Connection S) → ℕ → Type 0) → Slab (Connection S) → Slab (Connection S) → ℕ → Type 0
+abbrev pub Alone : {S T : Type 0} → (Slab (Connection S T) → Slab (Connection S T) → ℕ → Type 0) → Slab (Connection S T) → Slab (Connection S T) → ℕ → Type 0
 Alone happens old new key = happens old new key × StaysVacant old new key × OthersStay old new key
 
 -- it happens under each of these keys, one after another, and no other connection changes
-abbrev pub OneByOne : {S : Type 0} → (Slab (Connection S) → Slab (Connection S) → ℕ → Type 0) → List ℕ → Slab (Connection S) → Slab (Connection S) → Type 0
+abbrev pub OneByOne : {S T : Type 0} → (Slab (Connection S T) → Slab (Connection S T) → ℕ → Type 0) → List ℕ → Slab (Connection S T) → Slab (Connection S T) → Type 0
 OneByOne happens [] old new = new ≡ old
-OneByOne {S} happens (key ∷ keys) old new = (mid : Slab (Connection S)) × Alone happens old mid key × OneByOne happens keys mid new
+OneByOne {S} {T} happens (key ∷ keys) old new = (mid : Slab (Connection S T)) × Alone happens old mid key × OneByOne happens keys mid new
 
 -- the completion is delivered to the connection whose key is in its token, and no connection under another key changes
-abbrev pub DeliversCompletion : {S : Type 0} → Completion (Result Called Refusal) → Slab (Connection S) → Slab (Connection S) → Type 0
-DeliversCompletion completion old new = Delivers old new completion.token completion.reply × StaysVacant old new completion.token.connection × OthersStay old new completion.token.connection
+abbrev pub DeliversCompletion : {S T R : Type 0} → Finishing T R → Completion (Result R Refusal) → Slab (Connection S T) → Slab (Connection S T) → Type 0
+DeliversCompletion finishes completion old new = Delivers finishes old new completion.token completion.reply × StaysVacant old new completion.token.connection × OthersStay old new completion.token.connection
 
 -- each of these completions is delivered, the last one first
-abbrev pub DeliversAll : {S : Type 0} → List (Completion (Result Called Refusal)) → Slab (Connection S) → Slab (Connection S) → Type 0
-DeliversAll [] old new = new ≡ old
-DeliversAll {S} (completion ∷ later) old new = (mid : Slab (Connection S)) × DeliversAll later old mid × DeliversCompletion completion mid new
+abbrev pub DeliversAll : {S T R : Type 0} → Finishing T R → List (Completion (Result R Refusal)) → Slab (Connection S T) → Slab (Connection S T) → Type 0
+DeliversAll finishes [] old new = new ≡ old
+DeliversAll {S} {T} finishes (completion ∷ later) old new = (mid : Slab (Connection S T)) × DeliversAll finishes later old mid × DeliversCompletion finishes completion mid new
 
--- the backend brought completions, and each of them is delivered
-abbrev pub DeliversBrought : {S : Type 0} → (List (Completion (Result Called Refusal)) → Type 0) → Slab (Connection S) → Slab (Connection S) → Type 0
-DeliversBrought brings old new = (completions : List (Completion (Result Called Refusal))) × brings completions × DeliversAll completions old new
+-- the backend brought completions, and each of them is delivered, in their order
+abbrev pub DeliversBrought : {S T R : Type 0} → Finishing T R → (List (Completion (Result R Refusal)) → Type 0) → Slab (Connection S T) → Slab (Connection S T) → Type 0
+DeliversBrought {S} {T} {R} finishes brings old new =
+    (completions : List (Completion (Result R Refusal))) × brings completions × DeliversAll finishes (reverse completions) old new

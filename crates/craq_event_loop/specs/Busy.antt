@@ -16,47 +16,47 @@ is_waiting (phases.Waits q) = true
 is_waiting phase = false
 
 -- the connection has ended, and no completion comes to it any more
-abbrev pub IsDone : {S : Type 0} → Connection S → Type 0
+abbrev pub IsDone : {S T : Type 0} → Connection S T → Type 0
 IsDone c = (c.over ≡ true) × (is_waiting c.state.phase ≡ false)
 
 -- the connection has ended, or nothing came and nothing was taken for more than `idle` seconds while no call of it was under way
-abbrev pub IsIdle : {S : Type 0} → ℕ → ℕ → Connection S → Type 0
+abbrev pub IsIdle : {S T : Type 0} → ℕ → ℕ → Connection S T → Type 0
 IsIdle now idle c = (c.over ≡ true) ⊎ ((is_waiting c.state.phase ≡ false) × (idle < now - c.heard))
 
 -- there may be a whole frame, no call is under way, the connection state has not ended, and fewer than 1,024 bytes are unsent: more
 -- bytes will come soon
-abbrev pub GoesOn : {S : Type 0} → Connection S → Type 0
+abbrev pub GoesOn : {S T : Type 0} → Connection S T → Type 0
 GoesOn c =
     (c.more ≡ true) × (length c.state.codec.buffers.output.items < 1024) × (ending_of c.state.phase ≡ None) × (is_waiting c.state.phase ≡ false)
 
 -- bytes are unsent, and the socket may take some
-abbrev pub MayGive : {S : Type 0} → Connection S → Type 0
+abbrev pub MayGive : {S T : Type 0} → Connection S T → Type 0
 MayGive c = (c.over ≡ false) × (c.state.codec.buffers.output.items ≢ []) × (c.readiness.writable ≡ true)
 
 -- no bytes are unsent and no call is under way, and there may be a whole frame in the bytes that were read, or more to be read
-abbrev pub MayGoOn : {S : Type 0} → Connection S → Type 0
+abbrev pub MayGoOn : {S T : Type 0} → Connection S T → Type 0
 MayGoOn c =
     (c.over ≡ false) × (c.state.codec.buffers.output.items ≡ []) × (is_waiting c.state.phase ≡ false)
     × ((c.more ≡ true) ⊎ (c.readiness.readable ≡ true))
 
 -- the connection has work that neither an event nor a completion announces: it is to be dropped, or bytes are to be written, or it may
 -- go on with bytes that came
-abbrev pub IsBehind : {S : Type 0} → Connection S → Type 0
+abbrev pub IsBehind : {S T : Type 0} → Connection S T → Type 0
 IsBehind c = IsDone c ⊎ (MayGive c ⊎ MayGoOn c)
 
 -- returns true if a connection is there and is marked as one that has something to do
-abbrev pub is_marked : {S : Type 0} → Option (Connection S) → Bool
+abbrev pub is_marked : {S T : Type 0} → Option (Connection S T) → Bool
 is_marked None = false
 is_marked (Some c) = c.busy
 
 -- the keys with this one behind the others, where a connection is under it that was not marked
-abbrev pub with_key : {S : Type 0} → List ℕ → ℕ → Option (Connection S) → List ℕ
+abbrev pub with_key : {S T : Type 0} → List ℕ → ℕ → Option (Connection S T) → List ℕ
 with_key keys key None = keys
 with_key keys key (Some c) = if c.busy then keys else keys ++ key ∷ []
 
 -- the first list names just the connections that are marked, each once; the second names none; and both have room for the keys of
 -- all connections
-pub record ListsMarked {S : Type 0} (connections : Slab (Connection S)) (busy later : Vec ℕ Global) : Type 0 where
+pub record ListsMarked {S T : Type 0} (connections : Slab (Connection S T)) (busy later : Vec ℕ Global) : Type 0 where
   pub marked : (key : ℕ) → Contains busy.items key ↔ is_marked (get connections key) ≡ true
   pub once : AllPairs (λ x y. x ≢ y) busy.items
   pub none_later : later.items ≡ []
@@ -64,35 +64,35 @@ pub record ListsMarked {S : Type 0} (connections : Slab (Connection S)) (busy la
   pub room_later : slab_len connections ≤ vec_capacity later
 
 -- each connection that is behind is marked
-abbrev pub MarksBehind : {S : Type 0} → Slab (Connection S) → Type 0
-MarksBehind {S} connections = (key : ℕ) (c : Connection S) → get connections key ≡ Some c → IsBehind c → c.busy ≡ true
+abbrev pub MarksBehind : {S T : Type 0} → Slab (Connection S T) → Type 0
+MarksBehind {S} {T} connections = (key : ℕ) (c : Connection S T) → get connections key ≡ Some c → IsBehind c → c.busy ≡ true
 
 -- the busy list of a thread names just its connections that are marked, each once, and each that is behind is
-pub record NoneForgotten {S : Type 0} (m : Members S) : Type 0 where
+pub record NoneForgotten {S T R : Type 0} (m : Members S T R) : Type 0 where
   pub listed : ListsMarked m.connections m.busy m.later
   pub behind : MarksBehind m.connections
 
 -- a thread that has no connections yet
-abbrev pub HasNone : {S : Type 0} → Members S → Type 0
+abbrev pub HasNone : {S T R : Type 0} → Members S T R → Type 0
 HasNone m = (slab_len m.connections ≡ 0) × (vec_len m.busy ≡ 0) × (vec_len m.later ≡ 0)
 
 -- these keys are just those of the connections that are behind
-abbrev pub ListsBehind : {S : Type 0} → Slab (Connection S) → List ℕ → Type 0
-ListsBehind {S} connections keys = (key : ℕ) → Contains keys key ↔ ((c : Connection S) × (get connections key ≡ Some c) × IsBehind c)
+abbrev pub ListsBehind : {S T : Type 0} → Slab (Connection S T) → List ℕ → Type 0
+ListsBehind {S} {T} connections keys = (key : ℕ) → Contains keys key ↔ ((c : Connection S T) × (get connections key ≡ Some c) × IsBehind c)
 
 -- no frame that was read is left: if the connection goes on with no byte unsent and no call under way, there is no message to be asked,
 -- and less than a frame
-abbrev pub LeavesNoFrame : {S : Type 0} → Connection S → Type 0
+abbrev pub LeavesNoFrame : {S T : Type 0} → Connection S T → Type 0
 LeavesNoFrame c =
     c.over ≡ false → c.state.codec.buffers.output.items ≡ [] → is_waiting c.state.phase ≡ false
     → ∥ IsStarved c.state.phase c.state.codec.buffers.input.items ∥₁
 
 -- no connection is behind, and none leaves a frame
-abbrev pub NoneBehind : {S : Type 0} → Slab (Connection S) → Type 0
-NoneBehind {S} connections = (key : ℕ) (c : Connection S) → get connections key ≡ Some c → ¬ IsBehind c × LeavesNoFrame c
+abbrev pub NoneBehind : {S T : Type 0} → Slab (Connection S T) → Type 0
+NoneBehind {S} {T} connections = (key : ℕ) (c : Connection S T) → get connections key ≡ Some c → ¬ IsBehind c × LeavesNoFrame c
 
 -- the thread has at most two connections, and fewer than 200 turns began since one had something to do: so it looks again before it sleeps
-abbrev pub LooksAgain : {S : Type 0} → Members S → Type 0
+abbrev pub LooksAgain : {S T R : Type 0} → Members S T R → Type 0
 LooksAgain m = (slab_len m.connections ≤ 2) × (m.looks < 200)
 
 -- the most nanoseconds that a thread sleeps: a second where it looks for idle connections, and else without end

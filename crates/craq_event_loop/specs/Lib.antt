@@ -2,7 +2,6 @@ pub mod Advancing
 pub mod Belonging
 pub mod Busy
 pub mod Coming
-pub mod Completions
 pub mod Readiness
 pub mod Serving
 pub mod Sockets

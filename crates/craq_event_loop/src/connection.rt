@@ -9,7 +9,8 @@ use crate::backend::{Arrival, LoopBackend};
 use crate::socket::{Moved, Socket};
 use crate::traffic::ClientStream;
 use craq_completions::{Outcome, Token};
-use craq_session::{ConnectionState, Load, Stepped, UnsentCall, outcome_of_completion};
+use craq_names::Refusal;
+use craq_session::{ConnectionState, Load, Stepped, UnsentCall};
 use mio::event::Event;
 use mio::unix::SourceFd;
 use mio::{Interest, Registry};
@@ -63,9 +64,9 @@ impl Readiness {
 
 /// A connection of an event loop.
 #[derive(Drop)]
-pub(crate) struct Connection<S> {
+pub(crate) struct Connection<S, T> {
     stream: S,
-    state: ConnectionState,
+    state: ConnectionState<T>,
     /// The number of the call that was asked last: the first call has 1, each later one the next,
     /// and after 2^64 - 1 comes 0. So a number comes again only after 2^64 calls. 0 where none was
     /// asked.
@@ -84,7 +85,7 @@ pub(crate) struct Connection<S> {
     ghost unread: { more ≡ false → ∥ IsStarved state.phase state.codec.buffers.input.items ∥₁ },
 }
 
-impl Connection<ClientStream> {
+impl<T: Drop> Connection<ClientStream, T> {
     ghost use Rattle.craq_event_loop.specs.Belonging.{CameAs, IsNew};
 
     /// Makes the state of a connection that came, whose readiness is reported under this token.
@@ -94,15 +95,16 @@ impl Connection<ClientStream> {
         alloc: Global,
         registry: &Registry,
         token: mio::Token,
-        arrival: Arrival,
+        arrival: Arrival<T>,
         keep_receipts: bool,
         now: u64,
     ) -> io::Result<Self>
         ensures is_new { IfOk result (λ c. IsNew c) }
-        ensures arrival { IfOk result (λ c. CameAs arrival.stream arrival.slot arrival.receipts c) }
+        ensures arrival { IfOk result (λ c. CameAs arrival.stream arrival.session arrival.slot arrival.receipts c) }
     {
         let Arrival {
             stream,
+            session,
             slot,
             receipts,
         } = arrival;
@@ -112,7 +114,7 @@ impl Connection<ClientStream> {
         registry.register(&mut SourceFd(&stream.stream.as_raw_fd()), token, all)?;
         Ok(Connection {
             stream,
-            state: ConnectionState::new(alloc, keep_receipts),
+            state: ConnectionState::new(alloc, session, keep_receipts),
             calls: 0,
             slot,
             receipts,
@@ -129,7 +131,7 @@ impl Connection<ClientStream> {
     }
 }
 
-impl<S: Socket + Drop> Connection<S> {
+impl<S: Socket + Drop, T: Drop> Connection<S, T> {
     /// Ends the connection and hands its receipts to the backend.
     pub(crate) fn close<H: LoopBackend>(self, registry: &Registry, backend: &H) {
         let Connection {
@@ -150,11 +152,11 @@ impl<S: Socket + Drop> Connection<S> {
     }
 }
 
-impl<S: Socket> Connection<S> {
+impl<S: Socket, T> Connection<S, T> {
     ghost use Rattle.craq_event_loop.specs.Advancing.{AsksBackend, HasRound, next_call, under_key};
     ghost use Rattle.craq_event_loop.specs.Belonging.{CameBack, Gives, GivesNow, Hears, HearsNow, KeepsSlot, Reads, TakesCompletion, Writes};
     ghost use Rattle.craq_event_loop.specs.Busy.{GoesOn, IsBehind, IsDone, IsIdle, is_waiting};
-    ghost use Rattle.craq_event_loop.specs.Completions.{IsOutcome};
+    ghost use Rattle.craq_session.specs.Asking.{called_by};
     ghost use Rattle.craq_event_loop.specs.Readiness.{noticed};
     ghost use Rattle.craq_event_loop.specs.Sockets.{EndsAsSocket, EndsInOrder, HasSaidAll, ReadsOn, WritesOn};
 
@@ -361,6 +363,7 @@ impl<S: Socket> Connection<S> {
     /// Takes the outcome of the call that is under way.
     fn answer<H: LoopBackend>(&mut self, alloc: Global, backend: &H, outcome: Outcome)
         ensures reported { CameBack outcome self.old.state self.new.state }
+        ensures session { self.new.state.session ≡ self.old.state.session }
         ensures stream { self.new.stream ≡ self.old.stream }
         ensures calls { self.new.calls ≡ self.old.calls }
         ensures busy { self.new.busy ≡ self.old.busy }
@@ -374,42 +377,32 @@ impl<S: Socket> Connection<S> {
         self.state.answer(alloc, outcome);
     }
 
-    /// Returns the outcome of the call that is under way, by its completion
-    /// (`outcome_of_completion`).
-    fn outcome_of(&self, reply: Outcome) -> Outcome
-        ensures { IsOutcome self.now.state.phase reply result }
-    {
-        match self.state.request() {
-            Some(request) => outcome_of_completion(request, reply),
-            None => reply,
-        }
-    }
-
-    /// Takes a completion. Where the call that was asked last has this number, its outcome is this.
-    /// Another number is ignored: none comes, since a call is asked only once the one before it has
-    /// its outcome.
-    pub(crate) fn take_reply<H: LoopBackend>(
+    /// Takes a completion. Where the call that was asked last has this number, its session finishes
+    /// it by this reply. Another number is ignored: none comes, since a call is asked only once the
+    /// one before it has its outcome.
+    #[tactic(auto, using(crate::proofs::Advancing::came_by_completion))]
+    pub(crate) fn take_reply<H: LoopBackend<Session = T>>(
         &mut self,
         alloc: Global,
         backend: &H,
         call: u64,
-        reply: Outcome,
+        reply: Result<H::Reply, Refusal>,
     )
-        ensures takes { TakesCompletion call reply self.old self.new }
+        ensures takes { TakesCompletion (H.finishes backend.now) call reply self.old self.new }
         ensures busy { self.new.busy ≡ self.old.busy }
     {
         if call != self.calls {
             drop(reply);
             return;
         }
-        let outcome = self.outcome_of(reply);
+        let outcome = self.state.finish(backend, reply);
         self.answer(alloc, backend, outcome);
     }
 
     /// Asks the call that a step made, under this key and the number after that of the call before
     /// it. An outcome at once goes to its state.
     #[tactic(auto, using(crate::proofs::Advancing::nothing_came, crate::proofs::Advancing::came_at_once))]
-    fn submit<H: LoopBackend>(
+    fn submit<H: LoopBackend<Session = T>>(
         &mut self,
         alloc: Global,
         backend: &H,
@@ -417,7 +410,7 @@ impl<S: Socket> Connection<S> {
         key: usize,
         load: Load,
     )
-        ensures asked { AsksBackend (H.refuses backend.now) (under_key (H.submits backend.now) key (next_call self.old.calls)) self.old.state.phase self.old.state self.new.state }
+        ensures asked { AsksBackend (H.refuses backend.now) (under_key (called_by (H.submits backend.now) (H.finishes backend.now)) key (next_call self.old.calls)) self.old.state.phase self.old.state self.new.state }
         ensures calls { self.new.calls ≡ next_call self.old.calls }
         ensures stream { self.new.stream ≡ self.old.stream }
         ensures busy { self.new.busy ≡ self.old.busy }
@@ -439,14 +432,14 @@ impl<S: Socket> Connection<S> {
     /// calls are asked under this key, each under the next number. A connection that is over takes
     /// no step.
     #[tactic(auto, using(crate::proofs::Advancing::none_taken, crate::proofs::Advancing::went, crate::proofs::Advancing::called, crate::proofs::Advancing::starved, crate::proofs::Advancing::stayed, crate::proofs::Starved::step_still, crate::proofs::Starved::step_starved))]
-    pub(crate) fn advance<H: LoopBackend>(
+    pub(crate) fn advance<H: LoopBackend<Session = T>>(
         &mut self,
         alloc: Global,
         backend: &H,
         key: usize,
         share: Share,
     )
-        ensures round { HasRound share.steps (H.tells backend.now) (H.refuses backend.now) (under_key (H.submits backend.now) key) self.old.over self.old.state self.old.calls self.new.state self.new.calls }
+        ensures round { HasRound share.steps (H.tells backend.now) (H.refuses backend.now) (under_key (called_by (H.submits backend.now) (H.finishes backend.now)) key) self.old.over self.old.state self.old.calls self.new.state self.new.calls }
         ensures stream { self.new.stream ≡ self.old.stream }
         ensures busy { self.new.busy ≡ self.old.busy }
         ensures over { self.new.over ≡ self.old.over }

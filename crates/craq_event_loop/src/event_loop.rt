@@ -4,6 +4,7 @@ ghost use Rattle.std.specs.Prelude.{◌≡◌, ◌≢◌, ◌⊎◌, ◌<◌, �
 ghost use Rattle.std.specs.Duration.{as_nanos};
 ghost use Rattle.mio.specs.Events.{items};
 ghost use Rattle.slab.specs.Slab.{get, slab_len};
+ghost use Rattle.craq_session.specs.Asking.{called_by};
 ghost use Rattle.craq_event_loop.specs.declared.connection.Connection.{Connection};
 ghost use Rattle.craq_event_loop.specs.Advancing.{HasRoundAt, TakeRounds, most_steps};
 ghost use Rattle.craq_event_loop.specs.Belonging.{Delivers, DeliversAll, DeliversBrought, OneByOne, OthersStay, StaysVacant, Wakes};
@@ -16,6 +17,7 @@ use crate::connection::{Connection, Share};
 use crate::socket::Socket;
 use crate::traffic::ClientStream;
 use craq_completions::Completion;
+use craq_names::Refusal;
 use craq_session::Load;
 use mio::event::{Event, Events};
 use mio::{Poll, Registry, Token, Waker};
@@ -66,12 +68,12 @@ fn share_of(busy: usize) -> Share
 /// each under the next number. No other connection changes; none does where none is under the key.
 fn advance_at<S: Socket, H: LoopBackend>(
     alloc: Global,
-    connections: &mut Slab<Connection<S>>,
+    connections: &mut Slab<Connection<S, H::Session>>,
     backend: &H,
     key: usize,
     share: Share,
 )
-    ensures run_once { HasRoundAt share.steps (H.tells backend.now) (H.refuses backend.now) (H.submits backend.now) connections.old connections.new key }
+    ensures run_once { HasRoundAt share.steps (H.tells backend.now) (H.refuses backend.now) (called_by (H.submits backend.now) (H.finishes backend.now)) connections.old connections.new key }
     ensures vacant { StaysVacant connections.old connections.new key }
     ensures others { OthersStay connections.old connections.new key }
 {
@@ -83,7 +85,7 @@ fn advance_at<S: Socket, H: LoopBackend>(
 
 /// Adds what an event reports of the connection under a key. No other connection changes; none does
 /// where none is under the key.
-fn notice_at<S: Socket>(connections: &mut Slab<Connection<S>>, key: usize, event: &Event)
+fn notice_at<S: Socket, T>(connections: &mut Slab<Connection<S, T>>, key: usize, event: &Event)
     ensures reported { NoticesAt event.now connections.old connections.new key }
     ensures vacant { StaysVacant connections.old connections.new key }
     ensures others { OthersStay connections.old connections.new key }
@@ -95,8 +97,8 @@ fn notice_at<S: Socket>(connections: &mut Slab<Connection<S>>, key: usize, event
 
 /// Ends the connection under a key where it was left idle. Returns whether it is over. No other
 /// connection changes; none does where none is under the key.
-fn close_if_idle<S: Socket>(
-    connections: &mut Slab<Connection<S>>,
+fn close_if_idle<S: Socket, T>(
+    connections: &mut Slab<Connection<S, T>>,
     key: usize,
     now: u64,
     idle: u64,
@@ -114,9 +116,9 @@ fn close_if_idle<S: Socket>(
 
 /// Reads for the connection under a key. No other connection changes; none does where none is under
 /// the key.
-fn read_at<S: Socket>(
+fn read_at<S: Socket, T>(
     alloc: Global,
-    connections: &mut Slab<Connection<S>>,
+    connections: &mut Slab<Connection<S, T>>,
     key: usize,
     chunk: &mut [u8],
     now: u64,
@@ -135,7 +137,7 @@ fn read_at<S: Socket>(
 /// connection changes; none does where none is under the key. Returns whether it is still there and
 /// has work left of which no event and no completion will report.
 fn give_at<S: Socket + Drop, H: LoopBackend>(
-    connections: &mut Slab<Connection<S>>,
+    connections: &mut Slab<Connection<S, H::Session>>,
     registry: &Registry,
     backend: &H,
     key: usize,
@@ -171,15 +173,15 @@ fn keep_where(keys: &mut Vec<usize>, key: usize, is_kept: bool)
 
 /// The connections of an event loop.
 #[derive(Drop)]
-struct Members<S> {
+struct Members<S, T, P: Drop> {
     alloc: Global,
-    connections: Slab<Connection<S>>,
+    connections: Slab<Connection<S, T>>,
     /// The busy connections, each once.
     busy: Vec<usize>,
     /// Those of them that have work left after their share.
     later: Vec<usize>,
     /// The completions that came.
-    completions: Vec<Completion>,
+    completions: Vec<Completion<Result<P, Refusal>>>,
     /// The buffer of one read.
     chunk: Vec<u8>,
     /// True where the receipts of calls are kept.
@@ -192,16 +194,14 @@ struct Members<S> {
     looks: u32,
 }
 
-impl<S: Socket + Drop> Members<S> {
-    /// Makes an event loop without connections. Fails only when out of memory.
-    fn new(alloc: Global, keep_receipts: bool, idle: u32) -> Result<Self, AllocError>
-        ensures kept { IfOk result (λ m. NoneForgotten m) }
-        ensures none { IfOk result (λ m. HasNone m) }
-        ensures idle { IfOk result (λ m. m.idle ≡ idle) }
+impl<S: Socket + Drop, T: Drop, P: Drop> Members<S, T, P> {
+    /// Makes an event loop without connections, with this buffer for reads. Takes no memory.
+    fn new(alloc: Global, chunk: Vec<u8>, keep_receipts: bool, idle: u32) -> Self
+        ensures kept { NoneForgotten result }
+        ensures none { HasNone result }
+        ensures idle { result.idle ≡ idle }
     {
-        let mut chunk = Vec::new(alloc);
-        chunk.resize(CHUNK_SIZE, 0u8)?;
-        Ok(Members {
+        Members {
             alloc,
             connections: Slab::new(alloc),
             busy: Vec::new(alloc),
@@ -212,7 +212,7 @@ impl<S: Socket + Drop> Members<S> {
             idle: u64::from(idle),
             now: 0,
             looks: 0,
-        })
+        }
     }
 
     /// Marks a connection as busy: appends its key to the busy list where the list did not name it.
@@ -236,20 +236,21 @@ impl<S: Socket + Drop> Members<S> {
         }
     }
 
-    /// Takes the completions that the backend brought, and delivers each.
-    fn take_completions<H: LoopBackend>(&mut self, backend: &H)
+    /// Takes the completions that the backend brought, and delivers each, in their order.
+    fn take_completions<H: LoopBackend<Session = T, Reply = P>>(&mut self, backend: &H)
         ensures kept { NoneForgotten self.old → NoneForgotten self.new }
-        ensures delivered { DeliversBrought (H.brings backend.now self.old.completions.items) self.old.connections self.new.connections }
+        ensures delivered { DeliversBrought (H.finishes backend.now) (H.brings backend.now self.old.completions.items) self.old.connections self.new.connections }
         ensures none_left { self.new.completions.items ≡ [] }
     {
         backend.take_completions(&mut self.completions);
+        self.completions.reverse();
         self.deliver_all(backend);
     }
 
     /// Delivers each completion, the last one first. None is left.
-    fn deliver_all<H: LoopBackend>(&mut self, backend: &H)
+    fn deliver_all<H: LoopBackend<Session = T, Reply = P>>(&mut self, backend: &H)
         ensures kept { NoneForgotten self.old → NoneForgotten self.new }
-        ensures delivered { DeliversAll self.old.completions.items self.old.connections self.new.connections }
+        ensures delivered { DeliversAll (H.finishes backend.now) self.old.completions.items self.old.connections self.new.connections }
         ensures none_left { self.new.completions.items ≡ [] }
     {
         for _completion in 0..self.completions.len() {
@@ -262,10 +263,14 @@ impl<S: Socket + Drop> Members<S> {
 
     /// Delivers a completion. Where it has the number of the call that its connection asked last,
     /// it is that call's outcome. No other connection changes; none does where it has gone.
-    fn deliver<H: LoopBackend>(&mut self, backend: &H, completion: Completion)
+    fn deliver<H: LoopBackend<Session = T, Reply = P>>(
+        &mut self,
+        backend: &H,
+        completion: Completion<Result<P, Refusal>>,
+    )
         ensures kept { NoneForgotten self.old → NoneForgotten self.new }
         ensures completions { self.new.completions.items ≡ self.old.completions.items }
-        ensures reported { Delivers self.old.connections self.new.connections completion.token completion.reply }
+        ensures reported { Delivers (H.finishes backend.now) self.old.connections self.new.connections completion.token completion.reply }
         ensures vacant { StaysVacant self.old.connections self.new.connections completion.token.connection }
         ensures others { OthersStay self.old.connections self.new.connections completion.token.connection }
     {
@@ -320,8 +325,8 @@ impl<S: Socket + Drop> Members<S> {
 
     /// Takes the share of each busy connection, in which its calls are asked under its own key,
     /// each under the next of its numbers. No other connection changes.
-    fn advance_all<H: LoopBackend>(&mut self, backend: &H)
-        ensures rounds { TakeRounds (H.tells backend.now) (H.refuses backend.now) (H.submits backend.now) self.old.busy.items self.old.connections self.new.connections }
+    fn advance_all<H: LoopBackend<Session = T>>(&mut self, backend: &H)
+        ensures rounds { TakeRounds (H.tells backend.now) (H.refuses backend.now) (called_by (H.submits backend.now) (H.finishes backend.now)) self.old.busy.items self.old.connections self.new.connections }
         ensures busy { self.new.busy ≡ self.old.busy }
         ensures later { self.new.later ≡ self.old.later }
     {
@@ -334,7 +339,7 @@ impl<S: Socket + Drop> Members<S> {
     /// Writes for the busy connections, one after another, and no other connection changes. Each is
     /// removed exactly where it is done. The list then names those that are still there and have
     /// work left, in the order in which it named them.
-    fn give_all<H: LoopBackend>(&mut self, registry: &Registry, backend: &H)
+    fn give_all<H: LoopBackend<Session = T>>(&mut self, registry: &Registry, backend: &H)
         ensures writes { OneByOne (WritesAt S.remaining S.contents S.is_over S.is_dry S.is_full) self.old.busy.items self.old.connections self.new.connections }
         ensures listed { ListsMarked self.old.connections self.old.busy self.old.later → ListsMarked self.new.connections self.new.busy self.new.later }
         ensures in_order { ListsMarked self.old.connections self.old.busy self.old.later
@@ -353,11 +358,11 @@ impl<S: Socket + Drop> Members<S> {
     /// have taken them before the first is written to: so a processor does one kind of work for a
     /// while. The list then names exactly the connections that are behind, in the order in which it
     /// named them before.
-    fn step_all<H: LoopBackend>(&mut self, registry: &Registry, backend: &H)
+    fn step_all<H: LoopBackend<Session = T>>(&mut self, registry: &Registry, backend: &H)
         ensures kept { NoneForgotten self.old → NoneForgotten self.new }
         ensures behind { NoneForgotten self.old → ListsBehind self.new.connections self.new.busy.items }
         ensures in_order { NoneForgotten self.old → self.new.busy.items ≡ filter (λ key. is_marked (get self.new.connections key)) self.old.busy.items }
-        ensures serves { Serves S.remaining S.contents S.is_over S.is_dry S.is_full (H.tells backend.now) (H.refuses backend.now) (H.submits backend.now) self.old.busy.items self.old.connections self.new.connections }
+        ensures serves { Serves S.remaining S.contents S.is_over S.is_dry S.is_full (H.tells backend.now) (H.refuses backend.now) (called_by (H.submits backend.now) (H.finishes backend.now)) self.old.busy.items self.old.connections self.new.connections }
     {
         self.read_all();
         self.advance_all(backend);
@@ -426,12 +431,12 @@ impl<S: Socket + Drop> Members<S> {
     }
 }
 
-impl Members<ClientStream> {
+impl<T: Drop, P: Drop> Members<ClientStream, T, P> {
     /// Takes a connection in, with room for its key in both lists. It is busy, to be read. Fails
     /// when out of memory, or where the system refuses it; then nothing changes but room.
-    fn take_in(&mut self, registry: &Registry, arrival: Arrival) -> Result<(), AllocError>
+    fn take_in(&mut self, registry: &Registry, arrival: Arrival<T>) -> Result<(), AllocError>
         ensures kept { NoneForgotten self.old → NoneForgotten self.new }
-        ensures taken { OnOk result (NoneForgotten self.old → TakesIn arrival.stream arrival.slot arrival.receipts self.old self.new) }
+        ensures taken { OnOk result (NoneForgotten self.old → TakesIn arrival.stream arrival.session arrival.slot arrival.receipts self.old self.new) }
         ensures refused { OnErr result (ChangesRoom self.old self.new) }
     {
         let Some(count) = self.connections.len().checked_add(1) else {
@@ -458,7 +463,7 @@ impl Members<ClientStream> {
 
     /// Takes in the connections that came; those that were there are unchanged. One for which there
     /// is no room ends at once.
-    fn take_arrivals<H: LoopBackend>(&mut self, registry: &Registry, backend: &H)
+    fn take_arrivals<H: LoopBackend<Session = T>>(&mut self, registry: &Registry, backend: &H)
         ensures kept { NoneForgotten self.old → NoneForgotten self.new }
         ensures stay { NoneForgotten self.old → PresentStay self.old.connections self.new.connections }
     {
@@ -476,7 +481,7 @@ impl Members<ClientStream> {
 
     /// Makes a round: takes what came, and serves each busy connection. The list then names exactly
     /// the connections that are behind.
-    fn round<H: LoopBackend>(&mut self, registry: &Registry, backend: &H)
+    fn round<H: LoopBackend<Session = T, Reply = P>>(&mut self, registry: &Registry, backend: &H)
         ensures kept { NoneForgotten self.old → NoneForgotten self.new }
         ensures behind { NoneForgotten self.old → ListsBehind self.new.connections self.new.busy.items }
     {
@@ -489,7 +494,11 @@ impl Members<ClientStream> {
 
     /// Makes another round if no connection has work left. The list then names just the connections
     /// of the thread that are behind, if it did before.
-    fn round_again<H: LoopBackend>(&mut self, registry: &Registry, backend: &H)
+    fn round_again<H: LoopBackend<Session = T, Reply = P>>(
+        &mut self,
+        registry: &Registry,
+        backend: &H,
+    )
         ensures kept { NoneForgotten self.old → NoneForgotten self.new }
         ensures behind { NoneForgotten self.old → ListsBehind self.old.connections self.old.busy.items → ListsBehind self.new.connections self.new.busy.items }
     {
@@ -501,7 +510,7 @@ impl Members<ClientStream> {
     /// Makes a round. Makes another one if no connection has work left, for the replies that came
     /// meanwhile to the calls of the first: they are written before the next look at readiness. The
     /// list then names just the connections of the thread that are behind.
-    fn run_once<H: LoopBackend>(&mut self, registry: &Registry, backend: &H)
+    fn run_once<H: LoopBackend<Session = T, Reply = P>>(&mut self, registry: &Registry, backend: &H)
         ensures kept { NoneForgotten self.old → NoneForgotten self.new }
         ensures behind { NoneForgotten self.old → ListsBehind self.new.connections self.new.busy.items }
     {
@@ -514,13 +523,17 @@ impl Members<ClientStream> {
     }
 }
 
-/// An event loop: its connections, none before it begins, and the reports of their readiness.
+/// An event loop before it begins: the reports of readiness, and the buffer of its reads.
 #[derive(Drop)]
 pub struct EventLoop {
+    alloc: Global,
     poll: Poll,
     events: Events,
-    members: Members<ClientStream>,
-    ghost none: { HasNone members },
+    chunk: Vec<u8>,
+    /// True where the receipts of calls are kept.
+    keep_receipts: bool,
+    /// The seconds without a byte after which a connection is over; 0 for never.
+    idle: u32,
 }
 
 impl EventLoop {
@@ -536,10 +549,15 @@ impl EventLoop {
         let Ok(poll) = Poll::new(net) else {
             return Err(AllocError);
         };
+        let mut chunk = Vec::new(alloc);
+        chunk.resize(CHUNK_SIZE, 0u8)?;
         Ok(EventLoop {
+            alloc,
             poll,
             events: Events::with_capacity(alloc, MOST_EVENTS)?,
-            members: Members::new(alloc, keep_receipts, idle)?,
+            chunk,
+            keep_receipts,
+            idle,
         })
     }
 
@@ -554,10 +572,19 @@ impl EventLoop {
     /// Serves the connections that come, until no more come and all have ended.
     pub fn attend<R: Wait, H: LoopBackend>(self, rt: &R, backend: &H) {
         let EventLoop {
+            alloc,
             mut poll,
             mut events,
-            mut members,
+            chunk,
+            keep_receipts,
+            idle,
         } = self;
+        let mut members = Members::<ClientStream, H::Session, H::Reply>::new(
+            alloc,
+            chunk,
+            keep_receipts,
+            idle,
+        );
         for _ in rt.forever() {
             members.run_once(poll.registry(), backend);
             if members.connections.is_empty() && backend.is_over() {

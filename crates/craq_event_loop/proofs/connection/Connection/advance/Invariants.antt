@@ -1,4 +1,5 @@
 use Rattle.std.proofs.Common.{◌≡◌, ◌≤◌, false}
+use Rattle.craq_session.specs.Asking.{called_by}
 use Rattle.craq_event_loop.specs.Advancing.{TakesSteps, under_key}
 use Rattle.craq_event_loop.proofs.connection.Connection.advance.Given as goal
 
@@ -12,4 +13,4 @@ invariant-loop-step g l =
     × (l.self.receipts ≡ l.fn.self.receipts)
     × (l.self.readiness ≡ l.fn.self.readiness)
     × (l._step ≤ l.fn.share.steps)
-    × TakesSteps (g.H.Backend.tells l.fn.backend) (g.H.Backend.refuses l.fn.backend) (under_key (g.H.AsyncBackend.submits l.fn.backend) l.fn.key) l.fn.self.state l.fn.self.calls l._step l.self.state l.self.calls
+    × TakesSteps (g.H.Backend.tells l.fn.backend) (g.H.Backend.refuses l.fn.backend) (under_key (called_by (g.H.AsyncBackend.submits l.fn.backend) (g.H.AsyncBackend.finishes l.fn.backend)) l.fn.key) l.fn.self.state l.fn.self.calls l._step l.self.state l.self.calls

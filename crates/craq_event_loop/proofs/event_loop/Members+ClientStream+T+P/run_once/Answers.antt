@@ -1,7 +1,7 @@
 use Rattle.std.proofs.Common.{subst, sym}
 use Rattle.craq_event_loop.specs.Busy.{NoneForgotten}
-use Rattle.craq_event_loop.proofs.event_loop.Members+ClientStream.run_once.Goals as goal
-use Rattle.craq_event_loop.proofs.event_loop.Members+ClientStream.run_once.Goals.{then-self-gt0, else-self-gt0}
+use Rattle.craq_event_loop.proofs.event_loop.Members+ClientStream+T+P.run_once.Goals as goal
+use Rattle.craq_event_loop.proofs.event_loop.Members+ClientStream+T+P.run_once.Goals.{then-self-gt0, else-self-gt0}
 
 pub returns-clause-kept : goal.returns-clause-kept
 returns-clause-kept g c k =

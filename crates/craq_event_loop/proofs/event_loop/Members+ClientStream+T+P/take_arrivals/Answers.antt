@@ -1,5 +1,5 @@
 use Rattle.craq_event_loop.proofs.Coming.{stays_either}
-use Rattle.craq_event_loop.proofs.event_loop.Members+ClientStream.take_arrivals.Goals as goal
+use Rattle.craq_event_loop.proofs.event_loop.Members+ClientStream+T+P.take_arrivals.Goals as goal
 
 pub loop-init : goal.loop-init
 loop-init g c = λ k. (k, λ key one here. here)
@@ -7,7 +7,7 @@ loop-init g c = λ k. (k, λ key one here. here)
 pub loop-preserved : goal.loop-preserved
 loop-preserved g c = λ k. (
   c.take_in.ensures.kept (c.loop.invariant k).0,
-  λ key one here. stays_either c.in-Some.arrival.stream c.in-Some.arrival.slot c.in-Some.arrival.receipts c.loop.self c.take_in.new.self c.take_in.result
+  λ key one here. stays_either c.in-Some.arrival.stream c.in-Some.arrival.session c.in-Some.arrival.slot c.in-Some.arrival.receipts c.loop.self c.take_in.new.self c.take_in.result
       c.take_in.ensures.taken c.take_in.ensures.refused (c.loop.invariant k).0 key one ((c.loop.invariant k).1 key one here),
 )
 

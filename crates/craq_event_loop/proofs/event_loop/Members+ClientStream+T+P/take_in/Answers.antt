@@ -3,10 +3,10 @@ use Rattle.slab.specs.Slab.{get, slab_len}
 use Rattle.craq_event_loop.proofs.Busy.{behind_same, listed_grown}
 use Rattle.craq_event_loop.proofs.Coming.{behind_taken, listed_more_room, same_len, same_slots, same_values}
 use Rattle.craq_event_loop.proofs.Marks.{key_comes}
-use Rattle.craq_event_loop.proofs.event_loop.Members+ClientStream.take_in.Goals as goal
+use Rattle.craq_event_loop.proofs.event_loop.Members+ClientStream+T+P.take_in.Goals as goal
 
 pub returns-in_err-reserve-3-clause-kept : goal.returns-in_err-reserve-3-clause-kept
-returns-in_err-reserve-3-clause-kept c k = record {
+returns-in_err-reserve-3-clause-kept g c k = record {
   listed =
       listed_grown c.args.self.now.connections c.reserve-3.new.self c.args.self.now.busy c.args.self.now.later c.reserve.new.self c.reserve-2.new.self k.listed
       (same_slots c.args.self.now.connections c.reserve-3.new.self c.reserve-3.ensures.rest_kept)
@@ -17,7 +17,7 @@ returns-in_err-reserve-3-clause-kept c k = record {
 }
 
 pub returns-in_default-open-clause-kept : goal.returns-in_default-open-clause-kept
-returns-in_default-open-clause-kept c k = record {
+returns-in_default-open-clause-kept g c k = record {
   listed =
       listed_grown c.args.self.now.connections c.reserve-3.new.self c.args.self.now.busy c.args.self.now.later c.reserve.new.self c.reserve-2.new.self k.listed
       (same_slots c.args.self.now.connections c.reserve-3.new.self c.reserve-3.ensures.rest_kept)
@@ -28,7 +28,7 @@ returns-in_default-open-clause-kept c k = record {
 }
 
 pub returns-clause-kept : goal.returns-clause-kept
-returns-clause-kept c k =
+returns-clause-kept g c k =
     let same : c.reserve-3.new.self.slots ≡ c.args.self.now.connections.slots = same_slots c.args.self.now.connections c.reserve-3.new.self c.reserve-3.ensures.rest_kept in
     let count : slab_len c.insert_reserved-key.new.self ≡ c.in-Some.count =
     omega (arith, c.insert_reserved-key.ensures.len, same_len c.args.self.now.connections c.reserve-3.new.self same, c.len.ensures, c.in-Some.ensures.1) in
@@ -47,7 +47,7 @@ returns-clause-kept c k =
     }
 
 pub returns-clause-taken : goal.returns-clause-taken
-returns-clause-taken c k =
+returns-clause-taken g c k =
     let same : c.reserve-3.new.self.slots ≡ c.args.self.now.connections.slots = same_slots c.args.self.now.connections c.reserve-3.new.self c.reserve-3.ensures.rest_kept in
     let count : slab_len c.insert_reserved-key.new.self ≡ c.in-Some.count =
     omega (arith, c.insert_reserved-key.ensures.len, same_len c.args.self.now.connections c.reserve-3.new.self same, c.len.ensures, c.in-Some.ensures.1) in

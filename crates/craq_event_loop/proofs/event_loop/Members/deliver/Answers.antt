@@ -5,7 +5,7 @@ use Rattle.craq_event_loop.proofs.event_loop.Members.deliver.Goals as goal
 
 pub returns-clause-reported : goal.returns-clause-reported
 returns-clause-reported g c =
-    delivered c.args.self.now.connections c.wake.new.self.connections c.args.completion.token c.in-Some.addressee.now c.take_reply.new.self c.args.completion.reply
+    delivered (g.H.AsyncBackend.finishes c.args.backend.now) c.args.self.now.connections c.wake.new.self.connections c.args.completion.token c.in-Some.addressee.now c.take_reply.new.self c.args.completion.reply
     (sym c.in-Some.ensures.value) c.take_reply.ensures.takes c.wake.ensures.wakes
 
 pub returns-clause-kept : goal.returns-clause-kept

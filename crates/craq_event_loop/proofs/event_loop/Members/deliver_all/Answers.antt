@@ -3,13 +3,13 @@ use Rattle.craq_event_loop.proofs.Belonging.{all_left, one_less, one_shorter, la
 use Rattle.craq_event_loop.proofs.event_loop.Members.deliver_all.Goals as goal
 
 pub loop-completion-init : goal.loop-completion-init
-loop-completion-init g c = (all_left c.args.self.now.completions.items c.args.self.now.connections, omega arith, λ k. k)
+loop-completion-init g c = (all_left (g.H.AsyncBackend.finishes c.args.backend.now) c.args.self.now.completions.items c.args.self.now.connections, omega arith, λ k. k)
 
 pub loop-completion-preserved : goal.loop-completion-preserved
 loop-completion-preserved g c =
     let last : c.loop-completion.self.completions.items ≡ c.deliver.new.self.completions.items ++ c.in-Some.completion ∷ [] =
     last_left c.loop-completion.self.completions.items c.pop.new.self.items c.deliver.new.self.completions.items c.in-Some.completion c.in-Some.ensures.items c.deliver.ensures.completions in (
-      one_less c.args.self.now.completions.items c.loop-completion.self.completions.items c.deliver.new.self.completions.items c.in-Some.completion
+      one_less (g.H.AsyncBackend.finishes c.args.backend.now) c.args.self.now.completions.items c.loop-completion.self.completions.items c.deliver.new.self.completions.items c.in-Some.completion
           c.args.self.now.connections c.loop-completion.self.connections c.deliver.new.self.connections
           c.loop-completion.invariant.0 last (c.deliver.ensures.reported, c.deliver.ensures.vacant, c.deliver.ensures.others),
       one_shorter c.loop-completion.self.completions.items c.deliver.new.self.completions.items c.in-Some.completion c.loop-completion._completion
@@ -19,14 +19,14 @@ loop-completion-preserved g c =
 
 pub returns-after-loop-completion-clause-delivered : goal.returns-after-loop-completion-clause-delivered
 returns-after-loop-completion-clause-delivered g c =
-    none_left c.args.self.now.completions.items c.loop-completion.self.completions.items c.args.self.now.connections c.loop-completion.self.connections
+    none_left (g.H.AsyncBackend.finishes c.args.backend.now) c.args.self.now.completions.items c.loop-completion.self.completions.items c.args.self.now.connections c.loop-completion.self.connections
     c.loop-completion.invariant.0
     (none_long c.loop-completion.self.completions.items c.loop-completion._completion (length c.args.self.now.completions.items)
     c.loop-completion.invariant.1 (omega (arith, c.len-completion-end.ensures, c.loop-completion-test.false)))
 
 pub returns-in_default-clause-delivered : goal.returns-in_default-clause-delivered
 returns-in_default-clause-delivered g c =
-    none_left c.args.self.now.completions.items c.loop-completion.self.completions.items c.args.self.now.connections c.loop-completion.self.connections
+    none_left (g.H.AsyncBackend.finishes c.args.backend.now) c.args.self.now.completions.items c.loop-completion.self.completions.items c.args.self.now.connections c.loop-completion.self.connections
     c.loop-completion.invariant.0
     (none_long c.loop-completion.self.completions.items 0 0 (omega (arith, c.in_default.ensures.cases.0)) (omega arith))
 

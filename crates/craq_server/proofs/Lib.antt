@@ -1,1 +1,4 @@
-mod Floats
+pub mod Floats
+pub mod Sessions
+pub mod Turns
+pub mod Witnessing

@@ -1,4 +1,5 @@
 pub mod Listening
+pub mod Sessions
 pub mod Slots
 pub mod Refusing
 pub mod Status

@@ -8,13 +8,15 @@ use crate::io_threads::{EventLoops, serve_by_threads};
 use crate::listening::{Attempt, try_accept, wait_for_connection};
 use crate::logging::Log;
 use crate::metered::Metered;
+use crate::own_thread::serve_connection;
 use crate::passes::Passes;
 use crate::runtime::ServerRuntime;
 use crate::served_store::{ServedStore, StoreOutcome};
 use crate::socket_options::prepare;
+use crate::store_session::StoreSession;
 use craq_completions::CompletionQueue;
-use craq_event_loop::ClientStream;
-use craq_front::{Stream, serve};
+use craq_event_loop::{Arrival, ClientStream};
+use craq_front::Stream;
 use craq_names::Refusal;
 use craq_node::Core;
 use craq_seat::CallReceipt;
@@ -236,9 +238,14 @@ where
         begun
     }
 
+    /// Opens the session of a new connection, which has seen nothing of the store's history yet.
+    /// Fails if 2^64 - 1 sessions were opened.
+    pub(crate) fn open_session(&self) -> Result<StoreSession<C>, AllocError> {
+        Ok(StoreSession::new(self.store.open_session(&self.rt)?))
+    }
+
     /// Returns the store as the connections of one thread call it, with the thread's completion
-    /// queue, its share of the counts, and a new session. Fails when out of memory, and if 2^64 - 1
-    /// sessions were opened.
+    /// queue and its share of the counts. Fails only when out of memory.
     pub(crate) fn backend(
         &self,
         completions: CompletionQueue<StoreOutcome<C>>,
@@ -250,17 +257,17 @@ where
             store: self.store,
             passes: &self.passes,
             log: self.serving.log,
-            session: Mutex::new(self.store.open_session(&self.rt)?),
             completions: Arc::new(self.alloc, completions)?,
             share,
         })
     }
 
-    /// Serves a client to the end of its stream. Returns the receipts of its calls, where they are
-    /// kept.
+    /// Serves a client to the end of its stream, in this session. Returns the receipts of its calls,
+    /// where they are kept.
     fn serve_client(
         &self,
         backend: ServedStore<'_, R, C, G>,
+        session: StoreSession<C>,
         client: &ClientStream,
         slot: usize,
     ) -> Vec<CallReceipt> {
@@ -272,22 +279,28 @@ where
         };
         let mut reader = Stream::new(metered);
         let mut writer = Stream::new(metered);
-        let mut door = CallDoor::new(self.alloc, backend, slot, self.serving.keep_receipts);
-        let _ = serve(self.alloc, &mut reader, &mut writer, &mut door);
+        let mut door = CallDoor::new(
+            self.alloc,
+            backend,
+            session,
+            slot,
+            self.serving.keep_receipts,
+        );
+        let _ = serve_connection(self.alloc, &mut reader, &mut writer, &mut door);
         door.calls.into_receipts()
     }
 
     /// Serves a connection to its end, hands its receipts over and frees its place.
-    fn attend(
-        &self,
-        backend: ServedStore<'_, R, C, G>,
-        client: ClientStream,
-        slot: usize,
-        receipts: usize,
-    ) {
-        let calls = self.serve_client(backend, &client, slot);
+    fn attend(&self, backend: ServedStore<'_, R, C, G>, arrival: Arrival<StoreSession<C>>) {
+        let Arrival {
+            stream,
+            session,
+            slot,
+            receipts,
+        } = arrival;
+        let calls = self.serve_client(backend, session, &stream, slot);
         self.ended(slot, receipts, calls);
-        drop(client);
+        drop(stream);
     }
 
     /// Begins a thread that serves a connection. Fails where there is no thread or no memory.
@@ -300,10 +313,15 @@ where
         let receipts = self.new_receipts()?;
         let share = self.connections.counters.share(slot)?;
         let traffic = Arc::try_clone(&share.traffic)?;
-        let client = ClientStream { stream, traffic };
+        let arrival = Arrival {
+            stream: ClientStream { stream, traffic },
+            session: self.open_session()?,
+            slot,
+            receipts,
+        };
         let completions = CompletionQueue::new(self.alloc, None);
         let backend = self.backend(completions, share)?;
-        let thread = scope.spawn(move || self.attend(backend, client, slot, receipts))?;
+        let thread = scope.spawn(move || self.attend(backend, arrival))?;
         drop(thread);
         Ok(())
     }

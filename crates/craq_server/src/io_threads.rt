@@ -5,14 +5,15 @@ ghost use Rattle.std.specs.Prelude.{◌≡◌, [], IfOk, length};
 use crate::accepting::{Next, Server, Serving, Taken};
 use crate::runtime::ServerRuntime;
 use crate::served_store::{ServedStore, StoreOutcome};
-use craq_completions::{Completion, CompletionQueue, Token};
+use crate::store_session::StoreSession;
+use craq_completions::{Completion, CompletionQueue};
 use craq_event_loop::{Arrival, ClientStream, EventLoop, LoopBackend};
 use craq_frames::Text;
 use craq_names::Refusal;
 use craq_node::Core;
 use craq_seat::CallReceipt;
-use craq_session::{AsyncBackend, Backend, CallRequest, Load, SubmitToken};
-use craq_workers::{Gate, Named, Store};
+use craq_session::{AsyncBackend, Backend, CallRequest, SubmitToken};
+use craq_workers::{AnsweredCall, Gate, Named};
 use std::alloc::{AllocError, Global};
 use std::net::{Net, TcpListener, TcpStream};
 use std::sync::atomic::{AtomicBool, AtomicU64, Ordering};
@@ -25,42 +26,14 @@ use std::thread::Scope;
 struct IoContext<'s, 'a, R: Wait, C: Core + Named, G: Gate> {
     server: &'s Server<'a, R, C, G>,
     backend: ServedStore<'s, R, C, G>,
-    /// The completions that have come and are not handed to the event loop yet.
-    arrived: Mutex<Vec<Completion<StoreOutcome<C>>>>,
     /// The connections that were handed to the thread and are not taken in yet.
-    inbox: Mutex<Vec<Arrival>>,
+    inbox: Mutex<Vec<Arrival<StoreSession<C>>>>,
     /// True where no more connections are handed to it.
     over: AtomicBool,
     /// The event loop, until the thread begins.
     event_loop: Mutex<Option<EventLoop>>,
     /// The largest number of seconds that the clock gave.
     latest: AtomicU64,
-}
-
-impl<'s, 'a, R, C, G> IoContext<'s, 'a, R, C, G>
-where
-    R: Wait,
-    C: Core + Named,
-    G: Gate,
-{
-    /// Moves completions to the end of `into`, as connections take them. Out of memory, the others
-    /// stay until the next call.
-    fn move_completions(
-        &self,
-        arrived: &mut Vec<Completion<StoreOutcome<C>>>,
-        into: &mut Vec<Completion>,
-    ) {
-        for _ in 0..arrived.len() {
-            if into.reserve(1).is_err() {
-                break;
-            }
-            let Some(Completion { token, reply }) = arrived.pop() else {
-                break;
-            };
-            let reply = self.backend.reported(reply);
-            into.push_reserved(Completion { token, reply });
-        }
-    }
 }
 
 impl<'s, 'a, R, C, G> Backend for IoContext<'s, 'a, R, C, G>
@@ -92,18 +65,32 @@ where
     C: Core + Named + Send + 'static,
     G: Gate + Send + Sync + 'static,
 {
-    ghost use Rattle.std.specs.Prelude.{⊤};
+    ghost use Rattle.craq_server.specs.Sessions.{FinishesCall, Submits};
 
-    ghost submits = { λ context token request came. ⊤ };
+    type Session = StoreSession<C>;
+
+    type Reply = AnsweredCall<C>;
+
+    ghost submits = { λ context token. Submits };
+
+    ghost finishes = { λ context. FinishesCall };
 
     fn submit(
         &self,
+        session: &mut StoreSession<C>,
         submit_token: SubmitToken,
         request: &CallRequest,
-        token: Token,
-        load: Load,
-    ) -> Result<Option<CallReceipt>, Refusal> {
-        self.backend.submit(submit_token, request, token, load)
+    ) -> Result<Option<AnsweredCall<C>>, Refusal> {
+        self.backend.submit(session, submit_token, request)
+    }
+
+    fn finish(
+        &self,
+        session: &mut StoreSession<C>,
+        request: &CallRequest,
+        reply: AnsweredCall<C>,
+    ) -> Result<CallReceipt, Refusal> {
+        self.backend.finish(session, request, reply)
     }
 
     fn refused(&self, slot: usize, refusal: Refusal) {
@@ -123,13 +110,11 @@ where
 
     ghost lets_sleep = { λ context may. ⊤ };
 
-    fn take_completions(&self, into: &mut Vec<Completion>) {
-        let mut arrived = self.arrived.lock(&self.server.rt);
-        self.backend.completions.take(&self.server.rt, &mut arrived);
-        self.move_completions(&mut arrived, into);
+    fn take_completions(&self, into: &mut Vec<Completion<StoreOutcome<C>>>) {
+        self.backend.completions.take(&self.server.rt, into);
     }
 
-    fn arrival(&self) -> Option<Arrival> {
+    fn arrival(&self) -> Option<Arrival<StoreSession<C>>> {
         self.inbox.lock(&self.server.rt).pop()
     }
 
@@ -138,8 +123,7 @@ where
     }
 
     fn may_sleep(&self) -> bool {
-        self.arrived.lock(&self.server.rt).is_empty()
-            && self.backend.completions.may_sleep(&self.server.rt)
+        self.backend.completions.may_sleep(&self.server.rt)
     }
 
     fn seconds(&self) -> u64 {
@@ -175,7 +159,6 @@ where
         Ok(IoContext {
             server,
             backend: server.backend(completions, share)?,
-            arrived: Mutex::new(Vec::new(server.alloc)),
             inbox: Mutex::new(Vec::new(server.alloc)),
             over: AtomicBool::new(false),
             event_loop: Mutex::new(Some(event_loop)),
@@ -183,12 +166,14 @@ where
         })
     }
 
-    /// Hands a connection to the thread and wakes it. Fails only when out of memory.
+    /// Hands a connection to the thread, with a new session, and wakes it. Fails when out of memory,
+    /// and if 2^64 - 1 sessions were opened.
     fn hand(&self, stream: Arc<TcpStream>, slot: usize) -> Result<(), AllocError> {
         let receipts = self.server.new_receipts()?;
         let traffic = Arc::try_clone(&self.backend.share.traffic)?;
         let arrival = Arrival {
             stream: ClientStream { stream, traffic },
+            session: self.server.open_session()?,
             slot,
             receipts,
         };

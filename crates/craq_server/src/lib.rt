@@ -7,14 +7,17 @@ mod connection_slots;
 mod connections;
 mod counters;
 mod io_threads;
+mod laws;
 mod listening;
 mod logging;
 mod metered;
+mod own_thread;
 mod passes;
 mod runtime;
 mod served_store;
 mod socket_options;
 mod status;
+mod store_session;
 
 pub use accepting::{ServeReport, Serving, accept, accept_with};
 pub use connections::Connections;

@@ -1,30 +1,34 @@
 //! `ServedStore`: a running store as the connections of one thread call it; made by `accepting` and
 //! `io_threads`.
-ghost use Rattle.std.specs.Prelude.{◌≡◌, ◌<◌, ◌⊎◌, ⊤, IfErr, IfOk, length};
+ghost use Rattle.std.specs.Prelude.{◌≡◌, ◌<◌, IfErr, IfOk, length};
+ghost use Rattle.craq_session.specs.Asking.{at_once};
 ghost use Rattle.craq_server.specs.Refusing.{RefusesServed};
+ghost use Rattle.craq_server.specs.Sessions.{Finishes, Submits};
 ghost use Rattle.craq_server.specs.Status.{TellsStatus};
 
 use crate::counters::Share;
 use crate::logging::Log;
 use crate::passes::Passes;
 use crate::status::status_text;
-use craq_completions::{Completion, CompletionQueue, Outcome, Token};
+use crate::store_session::StoreSession;
+use craq_completions::{Completion, CompletionQueue};
 use craq_frames::Text;
 use craq_names::Refusal;
 use craq_node::Core;
 use craq_pending_calls::pass_after;
 use craq_seat::CallReceipt;
 use craq_session::{AsyncBackend, Backend, BlockingBackend, CallRequest, Load, SubmitToken};
-use craq_workers::{AnsweredCall, AskingCaller, Gate, MadeAsk, Named, OwnAsk, Session, Store};
+use craq_workers::{AnsweredCall, AskingCaller, Gate, Named, OwnAsk, Store};
 use std::alloc::{AllocError, Global};
-use std::sync::{Arc, Mutex, Wait};
+use std::sync::{Arc, Wait};
 
 /// The outcome of a call at the store: its reply, with what shows that a node of the store gave it,
 /// or the refusal.
 pub(crate) type StoreOutcome<C> = craq_workers::Outcome<C>;
 
 /// A running store as the connections of one thread call it. A request whose pass lies too far
-/// above the largest returned (`Passes`) is refused `Exhausted` and reaches no node.
+/// above the largest returned (`Passes`) is refused `Exhausted` and reaches no node. Each connection
+/// has a session of the store (`StoreSession`), and each reply is finished in it.
 #[derive(Drop)]
 pub(crate) struct ServedStore<'a, R: Wait, C: Core + Named, G: Gate> {
     pub(crate) rt: R,
@@ -32,8 +36,6 @@ pub(crate) struct ServedStore<'a, R: Wait, C: Core + Named, G: Gate> {
     pub(crate) store: &'a Store<C, G>,
     pub(crate) passes: &'a Passes,
     pub(crate) log: Log,
-    /// The session of the calls of this thread.
-    pub(crate) session: Mutex<Session<C>>,
     /// The completions of the calls of this thread.
     pub(crate) completions: Arc<CompletionQueue<StoreOutcome<C>>>,
     /// The counts of this thread.
@@ -46,60 +48,47 @@ where
     C: Core + Named,
     G: Gate,
 {
-    /// Returns the receipt of a reply that is about to go out, and notes its pass.
-    fn receipt_of(&self, answered: AnsweredCall<C>) -> CallReceipt
-        ensures { result ≡ answered }
-    {
-        let receipt = answered.into_receipt();
-        self.passes.tell(pass_after(receipt.pass(), &receipt));
-        receipt
-    }
-
-    /// Returns an outcome as connections take it. The pass of a reply is noted.
-    pub(crate) fn reported(&self, outcome: StoreOutcome<C>) -> Outcome {
-        match outcome {
-            Ok(answered) => Ok(self.receipt_of(answered)),
-            Err(refusal) => Err(refusal),
-        }
-    }
-
-    /// Makes the call of a request in the session of this thread. Refused with `Memory` when out of
-    /// memory, and with `Exhausted` if the session made 2^64 - 1 calls.
-    fn make_ask(&self, request: &CallRequest) -> Result<MadeAsk<C>, Refusal>
-        ensures made { IfOk result (λ m. (m.name ≡ request.now.node) × (m.ask ≡ request.now.ask)) }
-        ensures refused { IfErr result (λ e. (e ≡ Refusal.Memory) ⊎ (e ≡ Refusal.Exhausted)) }
-    {
-        let mut session = self.session.lock(&self.rt);
-        self.store
-            .make_ask(&mut session, &request.node, &request.ask)
-    }
-
-    /// Submits a call under this token. Refused `Exhausted` for the pass, and if the session of
-    /// this thread made 2^64 - 1 calls; else as `Store::submit` is.
+    /// Submits a call in this session. Refused `Exhausted` for the pass, and if the session made
+    /// 2^64 - 1 calls; else as `Store::submit` is.
+    #[tactic(auto, using(crate::proofs::Sessions::submits_made, crate::proofs::Sessions::submits_nothing))]
     fn submit_call(
         &self,
+        session: &mut StoreSession<C>,
         request: &CallRequest,
-        token: Token,
-        load: Load,
-    ) -> Result<Option<CallReceipt>, Refusal>
+        submit_token: &SubmitToken,
+    ) -> Result<Option<AnsweredCall<C>>, Refusal>
         ensures refused { IfErr result (λ e. RefusesServed (length self.now.store.now.names) request.now.node request.now.ask e) }
         ensures known { IfOk result (λ _. request.now.node.chain < length self.now.store.now.names) }
+        ensures submitted { Submits session.old request.now (at_once result) session.new }
     {
         if !self.passes.takes(request.pass) {
             return Err(Refusal::Exhausted);
         }
-        let made = self.make_ask(request)?;
+        let made = session.make(self.store, &request.node, &request.ask)?;
         let caller = AskingCaller {
             pass: request.pass,
             completions: &self.completions,
-            token,
-            light_load: load == Load::Light,
+            token: submit_token.token,
+            light_load: submit_token.load == Load::Light,
         };
         let own = OwnAsk { made, caller };
-        match self.store.submit(&self.rt, &request.ask, own)? {
-            Some(answered) => Ok(Some(self.receipt_of(answered))),
-            None => Ok(None),
-        }
+        self.store.submit(&self.rt, &request.ask, own)
+    }
+
+    /// Finishes a call in the session that made it, and notes the pass that its client has from
+    /// then on. Returns the receipt of the reply, or `Closed` if the reply is of another call.
+    fn finish_call(
+        &self,
+        session: &mut StoreSession<C>,
+        request: &CallRequest,
+        answered: AnsweredCall<C>,
+    ) -> Result<CallReceipt, Refusal>
+        ensures finished { Finishes session.old request.now.node answered result session.new }
+        ensures closed { IfErr result (λ e. e ≡ Refusal.Closed) }
+    {
+        let receipt = session.finish(self.store, &request.node, answered)?;
+        self.passes.tell(pass_after(receipt.pass(), &receipt));
+        Ok(receipt)
     }
 }
 
@@ -131,18 +120,33 @@ where
     C: Core + Named,
     G: Gate,
 {
-    ghost submits = { λ served token request came. ⊤ };
+    ghost use Rattle.craq_server.specs.Sessions.{FinishesCall, Submits};
+
+    type Session = StoreSession<C>;
+
+    type Reply = AnsweredCall<C>;
+
+    ghost submits = { λ served token. Submits };
+
+    ghost finishes = { λ served. FinishesCall };
 
     fn submit(
         &self,
+        session: &mut StoreSession<C>,
         submit_token: SubmitToken,
         request: &CallRequest,
-        token: Token,
-        load: Load,
-    ) -> Result<Option<CallReceipt>, Refusal> {
-        drop(submit_token);
+    ) -> Result<Option<AnsweredCall<C>>, Refusal> {
         self.share.count_ask(&request.ask);
-        self.submit_call(request, token, load)
+        self.submit_call(session, request, &submit_token)
+    }
+
+    fn finish(
+        &self,
+        session: &mut StoreSession<C>,
+        request: &CallRequest,
+        reply: AnsweredCall<C>,
+    ) -> Result<CallReceipt, Refusal> {
+        self.finish_call(session, request, reply)
     }
 
     fn refused(&self, slot: usize, refusal: Refusal) {
@@ -157,11 +161,11 @@ where
     C: Core + Named,
     G: Gate,
 {
-    fn wait(&self) -> Outcome {
+    fn wait(&self) -> StoreOutcome<C> {
         let Some(completion) = self.completions.wait(&self.rt) else {
             return Err(Refusal::Closed);
         };
         let Completion { token: _, reply } = completion;
-        self.reported(reply)
+        reply
     }
 }

@@ -21,7 +21,7 @@
 - threads: each function and type that docs/develop/THREADS.md names is in the crate beside it, or
   in some crate
 - figures: the table of README.md is what tools.pages.speed writes from benchmarks/server/RESULTS.md;
-  each other figure of README.md is in that file or MIXES.md there
+  each other figure of README.md is in that file
 - limits: the table of docs/use/GUARANTEES.md has the numbers of the constants and definitions;
   docs/develop/MESSAGES.md has those of messages between nodes, and its worked bytes are those of
   craq_part_tests/src/links.rt
@@ -436,11 +436,11 @@ def figures(checks):
     result = text_of("benchmarks/server/RESULTS.md")
     speed(checks)
     part = section(text_of("README.md"), "Speed")
-    all_measured = {it for row in rows(result + text_of("benchmarks/server/MIXES.md")) for it in row}
+    all_measured = {it for row in rows(result) for it in row}
     for number in re.findall(r"\b(?:[0-9]+\.[0-9]{2}|[0-9]+(?:,[0-9]{3})+)\b",
                              re.sub(r"^\|.*$", "", part, flags=re.M)):
-        checks.that(number in all_measured, f"README.md, its figures: {number}, which neither RESULTS.md nor "
-                    f"MIXES.md of benchmarks/server has")
+        checks.that(number in all_measured,
+                    f"README.md, its figures: {number}, which benchmarks/server/RESULTS.md has not")
 
 
 # First lines, and blocks.

@@ -262,7 +262,7 @@ where
         })
     }
 
-    /// Serves a client to the end of its stream, in this session. Returns the receipts of its calls,
+    /// Serves a client to the end of its stream, in its session. Returns the receipts of its calls,
     /// where they are kept.
     fn serve_client(
         &self,

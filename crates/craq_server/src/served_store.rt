@@ -48,7 +48,7 @@ where
     C: Core + Named,
     G: Gate,
 {
-    /// Submits a call in this session. Refused `Exhausted` for the pass, and if the session made
+    /// Submits a call in the session. Refused `Exhausted` for the pass, and if the session made
     /// 2^64 - 1 calls; else as `Store::submit` is.
     #[tactic(auto, using(crate::proofs::Sessions::submits_made, crate::proofs::Sessions::submits_nothing))]
     fn submit_call(

@@ -55,7 +55,7 @@ pub enum Load {
     Full,
 }
 
-/// Submits a call in this session. Returns its outcome if it comes at once; else `None`, and a
+/// Submits a call in the session. Returns its outcome if it comes at once; else `None`, and a
 /// completion will come.
 pub(crate) fn submit_call<B: AsyncBackend>(
     backend: &B,

@@ -81,7 +81,7 @@ impl<T> ConnectionState<T> {
     ghost use Rattle.craq_session.specs.Asking.{IsAsked, IsOutcome, called_by};
     ghost use Rattle.craq_session.specs.ConnectionStates.{AnswersCall, Holds, IsUnderWay, Took, ending_of};
 
-    /// Makes the state of a new connection with this session. `keep_receipts`: whether the receipts
+    /// Makes the state of a new connection with its session. `keep_receipts`: whether the receipts
     /// of its calls are kept. Takes no memory.
     pub fn new(alloc: Global, session: T, keep_receipts: bool) -> Self
         ensures holds { Holds result.phase result.codec [] [] [] }

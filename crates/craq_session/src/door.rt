@@ -35,7 +35,7 @@ pub struct CallDoor<C, T> {
 }
 
 impl<C: BlockingBackend<Session = T>, T> CallDoor<C, T> {
-    /// Makes the request handler of the connection at this place, which has this session and has
+    /// Makes the request handler of the connection at this place, which has the session and has
     /// had no call. Takes no memory.
     pub fn new(alloc: Global, backend: C, session: T, slot: usize, keep_receipts: bool) -> Self
         ensures keep_receipts { result.calls.keep_receipts ≡ keep_receipts }

@@ -175,7 +175,7 @@ def named_by(definition):
 def contract(path, function):
     """Returns the contract of a function of a file: from its name to its body."""
     text = repository.text_of("crates", path)
-    begin = re.search(rf"^\s*(?:pub )?fn {function}\b", text, re.M)
+    begin = re.search(rf"^\s*(?:pub(?:\(crate\))? )?fn {function}\b", text, re.M)
     rest = text[begin.start():]
     return rest[:re.search(r"^\s*\{|;$", rest, re.M).start()]
 

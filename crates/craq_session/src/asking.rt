@@ -8,9 +8,9 @@ use craq_completions::{Outcome, Token};
 use craq_names::Refusal;
 use craq_pending_calls::refusal_of_call;
 
-/// A call that a step made (`Stepped::Calls`). Only a step makes one, and only
-/// `ConnectionState::ask` takes it. It is neither `Copy` nor `Drop`, so each call that a step made
-/// is asked exactly once.
+/// A call that a step made (`Stepped::Calls`), or that a `CallDoor` makes and submits at once.
+/// Outside of this crate only `ConnectionState::ask` takes one. It is neither `Copy` nor `Drop`, so
+/// each call that a step made is asked exactly once.
 #[derive(Debug)]
 pub struct UnsentCall {
     _made: (),
@@ -35,9 +35,9 @@ impl UnsentCall {
     }
 }
 
-/// The right to submit a call, with the token of its completion. Only `ConnectionState::ask` makes
-/// one, of a call that a step made (`UnsentCall`). It is not `Copy`, and the backend takes it. So
-/// no call is submitted twice, and none that no step made, as long as the backend submits nothing
+/// The right to submit a call, with the token of its completion. Only `ConnectionState::ask` and
+/// `CallDoor` make one, each of an `UnsentCall`. It is not `Copy`, and the backend takes it. So no
+/// call is submitted twice, and none that was not made, as long as the backend submits nothing
 /// without one.
 #[derive(Debug, Drop)]
 pub struct SubmitToken {

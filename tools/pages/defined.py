@@ -20,6 +20,9 @@ CLAIMS = (("Every run is explained", "craq_promise/src/lib.rt", "every_run_is_ex
           ("A connection's replies are in the history", "craq_server/src/own_thread.rt",
            "serve_connection", ""))
 
+# The crates that a row of the table of claims names.
+MOST_CRATES = 6
+
 
 def beyond(found):
     """Returns the lines of definitions and types that the theorem does not reach, by crate."""
@@ -46,6 +49,13 @@ def figures_of_claims():
             f"takes it, for {sum(beyond(step).values())}")
 
 
+def by_crate(lines):
+    """Returns the crates with their lines as text: those with most lines, and how many others."""
+    most = sorted(sorted(lines, key=lambda it: -lines[it])[:MOST_CRATES])
+    text = ", ".join(f"`{it}` {lines[it]}" for it in most)
+    return text + (f"; {len(lines) - len(most)} more" if len(lines) > len(most) else "")
+
+
 def reached():
     """Returns a row for each claim: its lines, and those that the theorem does not reach."""
     head = ("Claim", "Contract", "Definitions", "Lines", "of types", "Lines beyond the theorem", "in crates")
@@ -55,7 +65,7 @@ def reached():
         own, types = lines_of(found)
         more = beyond(found)
         rows.append((claim, f"`{name or function}`", str(len(found)), f"{own + types:,}", str(types),
-                     str(sum(more.values())), ", ".join(f"`{it}` {more[it]}" for it in sorted(more))))
+                     str(sum(more.values())), by_crate(more)))
     return table(head, rows)
 
 

@@ -1,7 +1,9 @@
 //! Reads and writes commands by the grammar of `specs/CommandEncoding`; used by `craq_frames`.
 ghost use Rattle.std.specs.Prelude.{◌≡◌, ◌++◌, OnOk, OnErr};
+ghost use Rattle.std.specs.Int.{w64};
 ghost use Rattle.std.specs.Io.{StartsWith};
-ghost use Rattle.craq_codec.specs.NumberReading.{Decodes};
+ghost use Rattle.craq_codec.specs.NumberReading.{Decodes, number_at};
+ghost use Rattle.craq_codec.specs.PartReading.{object_at, pair_at};
 ghost use Rattle.craq_codec.specs.CommandReading.{command_at, command_body_at, transaction_at};
 ghost use Rattle.craq_codec.specs.PartEncoding.{object as object_bytes, value as value_bytes, IsObject, IsValue};
 ghost use Rattle.craq_codec.specs.CommandEncoding.{command as encodable_command, transaction, CommandFits, TransactionFits};
@@ -30,46 +32,56 @@ fn read_transaction(alloc: Global, bytes: &[u8]) -> Result<(Mini, &[u8]), Decode
     }
 }
 
+/// Reads an object and an amount; returns them with the bytes after them.
+#[tactic(auto, unfolding(crate::specs::PartReading::pair_at))]
+fn read_amount(alloc: Global, bytes: &[u8]) -> Result<(ObjectId, u64, &[u8]), DecodeError>
+    ensures { Decodes (λ x. ((x.0, x.1), x.2.now)) result (pair_at object_at (number_at w64) bytes.now) }
+{
+    let (object, rest) = ObjectId::read(alloc, bytes)?;
+    match read_u64(rest) {
+        Ok((by, rest)) => Ok((object, by, rest)),
+        Err(error) => {
+            drop(object);
+            Err(error)
+        }
+    }
+}
+
 /// Reads what follows the tag of a command; returns the command with the bytes after it.
-#[tactic(auto, unfolding(crate::specs::CommandReading::command_body_at, crate::specs::PartReading::pair_at))]
+#[tactic(auto, unfolding(crate::specs::CommandReading::command_body_at))]
 fn read_command_body(alloc: Global, tag: u8, bytes: &[u8]) -> Result<(Command, &[u8]), DecodeError>
     ensures { Decodes (λ x. (x.0, x.1.now)) result (command_body_at tag bytes.now) }
 {
     match tag {
         1 => {
-            let (object, rest) = ObjectId::read(alloc, bytes)?;
-            let (value, rest) = Value::read(alloc, rest)?;
+            let ((object, value), rest) = <(ObjectId, Value)>::read(alloc, bytes)?;
             Ok((Command::Put { object, value }, rest))
         }
         2 => {
-            let (object, rest) = ObjectId::read(alloc, bytes)?;
-            let (expect, rest) = read_u64(rest)?;
-            let (value, rest) = Value::read(alloc, rest)?;
+            let ((object, (expect, value)), rest) = <(ObjectId, (Version, Value))>::read(
+                alloc, bytes,
+            )?;
             let command = Command::TestAndSet {
                 object,
-                expect: Version::new(expect),
+                expect,
                 value,
             };
             Ok((command, rest))
         }
         3 => {
-            let (object, rest) = ObjectId::read(alloc, bytes)?;
-            let (value, rest) = Value::read(alloc, rest)?;
+            let ((object, value), rest) = <(ObjectId, Value)>::read(alloc, bytes)?;
             Ok((Command::Append { object, value }, rest))
         }
         4 => {
-            let (object, rest) = ObjectId::read(alloc, bytes)?;
-            let (value, rest) = Value::read(alloc, rest)?;
+            let ((object, value), rest) = <(ObjectId, Value)>::read(alloc, bytes)?;
             Ok((Command::Prepend { object, value }, rest))
         }
         5 => {
-            let (object, rest) = ObjectId::read(alloc, bytes)?;
-            let (by, rest) = read_u64(rest)?;
+            let (object, by, rest) = read_amount(alloc, bytes)?;
             Ok((Command::Increment { object, by }, rest))
         }
         6 => {
-            let (object, rest) = ObjectId::read(alloc, bytes)?;
-            let (by, rest) = read_u64(rest)?;
+            let (object, by, rest) = read_amount(alloc, bytes)?;
             Ok((Command::Decrement { object, by }, rest))
         }
         7 => {

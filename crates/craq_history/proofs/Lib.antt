@@ -1,3 +1,4 @@
 pub mod Apart
 pub mod Running
 pub mod Sound
+pub mod Waiting

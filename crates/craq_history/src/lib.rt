@@ -9,7 +9,9 @@ pub mod members;
 mod node;
 pub mod outs;
 pub mod steps;
+mod waiting_updates;
 
 pub use change::{Change, GatheringChange, HistoryChange, WaitingChange};
 pub use history::{History, ObjectVersions};
 pub use node::Node;
+pub use waiting_updates::WaitingUpdates;

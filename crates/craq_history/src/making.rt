@@ -1,7 +1,7 @@
 //! `Node::apply`, which applies a change to a node. `craq_node` calls it with the changes that
 //! rules plan.
 ghost use Rattle.std.specs.Prelude.{◌≡◌, ◌<◌, ◌-◌, ◌^◌, ◌++◌, ◌∷◌, [], true, IsOk, OnOk, OnErr, vec_len, vec_capacity};
-ghost use Rattle.craq_model.specs.Deliveries.{later_updates, reads_without};
+ghost use Rattle.craq_model.specs.Deliveries.{reads_without};
 ghost use Rattle.craq_history.specs.Change.{changed, no_change, past_by, gathering_by, IsGain, commits_by, updates_by, reads_by, epoch_by, members_by, floor_by, ticket_by};
 ghost use Rattle.craq_history.specs.Nodes.{plain_of};
 ghost use Rattle.craq_node_invariant.specs.Sound.{IsSound};
@@ -11,8 +11,8 @@ ghost use Rattle.craq_model.specs.Parts.{gathering_for, with_part};
 ghost use Rattle.craq_history.specs.Effects.{CanGrow, CanMake, FollowsInRow, IsApart, IsApplicable, IsSoundCopy, IsEncodableGrowth};
 ghost use Rattle.craq_history.specs.Room.{HasRoomFor};
 
-use crate::{Change, GatheringChange, History, HistoryChange, Node, WaitingChange};
-use craq_model::{Config, Gathering, StatePart, WaitingRead, WaitingUpdate};
+use crate::{Change, GatheringChange, History, HistoryChange, Node, WaitingChange, WaitingUpdates};
+use craq_model::{Config, Gathering, StatePart, WaitingRead};
 use craq_names::{Epoch, Items, NodeId, Seq, Ticket};
 use std::alloc::{AllocError, Global};
 
@@ -27,7 +27,7 @@ fn push_within<T: Drop>(items: &mut Vec<T>, item: T)
 /// Reserves room for one more waiting request if the change adds one. Fails only when out of
 /// memory.
 fn make_room(
-    updates: &mut Vec<WaitingUpdate>,
+    updates: &mut WaitingUpdates,
     reads: &mut Vec<WaitingRead>,
     change: &WaitingChange,
 ) -> Result<(), AllocError>
@@ -37,17 +37,10 @@ fn make_room(
     ensures free { change.now ≡ WaitingChange.Same → IsOk result }
 {
     match change {
-        WaitingChange::OneUpdate(_) => updates.reserve(1),
+        WaitingChange::OneUpdate(_) => updates.reserve(),
         WaitingChange::OneRead(_) => reads.reserve(1),
         _ => Ok(()),
     }
-}
-
-/// Keeps only the updates that wait for a later position.
-fn keep_later(updates: &mut Vec<WaitingUpdate>, position: Seq)
-    ensures { updates.new.items ≡ later_updates position updates.old.items }
-{
-    updates.retain(|update| position < update.position);
 }
 
 /// Drops the reads of a ticket.
@@ -58,20 +51,16 @@ fn drop_read(reads: &mut Vec<WaitingRead>, ticket: Ticket)
 }
 
 /// Applies the change of the waiting requests.
-fn change_waiting(
-    updates: &mut Vec<WaitingUpdate>,
-    reads: &mut Vec<WaitingRead>,
-    change: WaitingChange,
-)
+fn change_waiting(updates: &mut WaitingUpdates, reads: &mut Vec<WaitingRead>, change: WaitingChange)
     requires { HasRoomFor change updates.old reads.old }
     ensures updates { updates.new.items ≡ updates_by change updates.old.items }
     ensures reads { reads.new.items ≡ reads_by change reads.old.items }
 {
     match change {
         WaitingChange::Same => {}
-        WaitingChange::OneUpdate(update) => push_within(updates, update),
+        WaitingChange::OneUpdate(update) => updates.push(update),
         WaitingChange::OneRead(read) => push_within(reads, read),
-        WaitingChange::UpdatesAnswered(position) => keep_later(updates, position),
+        WaitingChange::UpdatesAnswered(position) => updates.keep_later(position),
         WaitingChange::ReadAnswered(ticket) => drop_read(reads, ticket),
         WaitingChange::AllAnswered => {
             updates.clear();

@@ -3,8 +3,9 @@
 ghost use Rattle.std.specs.Prelude.{◌≡◌, ◌+◌, nat_le, length};
 ghost use Rattle.craq_names.specs.Limits.{waiting_limit};
 
+use crate::WaitingUpdates;
 use crate::outs::Sender;
-use craq_model::{Gathering, WaitingRead, WaitingUpdate};
+use craq_model::{Gathering, WaitingRead};
 use craq_names::{Epoch, Items, NodeId, NodeName, Seq, Ticket};
 
 /// The maximum number of waiting requests at a node.
@@ -26,7 +27,7 @@ pub struct Node<H> {
     pub gathering: Option<Gathering>,
     pub last_ticket: Ticket,
     /// Updates without a reply so far, by rising ticket.
-    pub waiting_updates: Vec<WaitingUpdate>,
+    pub waiting_updates: WaitingUpdates,
     /// Reads without a reply so far, by rising ticket.
     pub waiting_reads: Vec<WaitingRead>,
 }

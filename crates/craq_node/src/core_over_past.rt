@@ -19,7 +19,7 @@ use craq_admission::{admit, is_heeded};
 use craq_commands::Command;
 use craq_epochs::{Config, Switch};
 use craq_history::steps::{done, ignoring};
-use craq_history::{Change, History, Node};
+use craq_history::{Change, History, Node, WaitingUpdates};
 use craq_model::{Ask, Event, LinkMessage, Step, Why};
 use craq_names::{Copied, Epoch, Items, NodeId, NodeName, Refusal, Ticket};
 use craq_write::add_tick_outs;
@@ -151,7 +151,7 @@ impl<H: History> NodeCore<H> {
                 floor: None,
                 gathering: None,
                 last_ticket: Ticket::new(0),
-                waiting_updates: Vec::new(alloc),
+                waiting_updates: WaitingUpdates::new(alloc),
                 waiting_reads: Vec::new(alloc),
             },
             switch,

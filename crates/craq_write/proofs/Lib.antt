@@ -12,3 +12,4 @@ pub mod Outgrown
 pub mod Waiting
 pub mod Readying
 pub mod Heard
+pub mod Pending

@@ -21,8 +21,8 @@ use craq_commands::Entry;
 use craq_history::members::{last_member, predecessor_of, successor_of};
 use craq_history::outs::{message, send_entries, tell_predecessor};
 use craq_history::steps::{done, ignoring};
-use craq_history::{Change, History, Node, WaitingChange};
-use craq_model::{Answer, Body, Out, Step, WaitingUpdate, Why};
+use craq_history::{Change, History, Node, WaitingChange, WaitingUpdates};
+use craq_model::{Answer, Body, Out, Step, Why};
 use craq_names::{Copied, Items, NodeId, Refusal, Seq};
 use std::alloc::{AllocError, Global};
 use std::slice;
@@ -35,21 +35,25 @@ fn ignored(alloc: Global, why: Why) -> Result<(Change, Step), AllocError>
 }
 
 /// Adds the replies to the updates that wait for at most this position, in order of their requests.
+/// Stops at the first one that waits for a later position, if positions rise.
 #[tactic(auto, unfolding(craq_model::specs::Deliveries::pending_updates))]
 fn answer_pending(
     outs: &mut Vec<Out>,
     alloc: Global,
     position: Seq,
-    updates: &[WaitingUpdate],
+    updates: &WaitingUpdates,
 ) -> Result<(), AllocError>
-    ensures { OnOk result (outs.new.items ≡ outs.old.items ++ answer_outs (map update_given (pending_updates position updates.now))) }
+    ensures { OnOk result (outs.new.items ≡ outs.old.items ++ answer_outs (map update_given (pending_updates position updates.now.items))) }
 {
-    for update in updates {
+    for place in 0..updates.len() {
+        let update = updates.get(place);
         if update.position <= position {
             outs.push(Out::Answer {
                 ticket: update.ticket,
                 answer: Answer::Update(update.reply.copied(alloc)?),
             })?;
+        } else if updates.rise() {
+            return Ok(());
         }
     }
     Ok(())
@@ -82,7 +86,7 @@ pub fn compute_ack<H: History>(
         return ignored(alloc, Why::TooFar);
     }
     let mut outs = Vec::new(alloc);
-    answer_pending(&mut outs, alloc, position, node.waiting_updates.as_slice())?;
+    answer_pending(&mut outs, alloc, position, &node.waiting_updates)?;
     tell_predecessor(
         &mut outs,
         &node.sender(),

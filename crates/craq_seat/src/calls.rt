@@ -1,7 +1,7 @@
 //! Calls that wait at a desk, and their receipts once a step answers them; used by `desk`.
-ghost use Rattle.std.specs.Prelude.{◌≡◌, ◌∷◌, ◌++◌, [], if◌then◌else◌, IfOk, IfSome, OnErr, OnOk};
+ghost use Rattle.std.specs.Prelude.{◌≡◌, ◌∷◌, ◌++◌, [], if◌then◌else◌, IfOk, IfSome, OnErr, OnOk, Some};
 ghost use Rattle.std.specs.List.{list_any};
-ghost use Rattle.craq_seat.specs.Calls.{AnswersItself, Serves, ServesAsked, accepted, all_answered, answers_to, ask_of, call_under, called_by, called_in, is_answer, left_by, waiting_after, without_call};
+ghost use Rattle.craq_seat.specs.Calls.{AnswersItself, Serves, ServesAsked, accepted, all_answered, answered_call, answers_to, ask_of, call_under, called_by, called_in, is_answer, left_by, waiting_after, without_call};
 
 use crate::{Receipt, TicketQueue, Ticketed};
 use craq_model::{Answer, Ask, Event, Out, Step};
@@ -110,6 +110,63 @@ pub(crate) fn ask_of(alloc: Global, event: &Event) -> Result<Option<Ask>, AllocE
     }
 }
 
+/// Appends a receipt. Fails only when out of memory; then drops it.
+fn add_receipt(receipts: &mut Vec<CallReceipt>, receipt: CallReceipt) -> Result<(), AllocError>
+    ensures ok { OnOk result (receipts.new.items ≡ receipts.old.items ++ receipt ∷ []) }
+    ensures err { OnErr result (receipts.new.items ≡ receipts.old.items) }
+{
+    match receipts.push(receipt) {
+        Ok(()) => Ok(()),
+        Err(failed) => {
+            drop(failed);
+            Err(AllocError)
+        }
+    }
+}
+
+/// Makes the receipt of a call and a copy of its answer, and appends it. Fails only when out of
+/// memory; then drops the call.
+fn add_answered(
+    receipts: &mut Vec<CallReceipt>,
+    alloc: Global,
+    call: Call,
+    answered: &Receipt,
+    answer: &Answer,
+) -> Result<(), AllocError>
+    ensures ok { OnOk result (receipts.new.items ≡ receipts.old.items ++ answered_call (Some call) answered.now answer.now) }
+    ensures err { OnErr result (receipts.new.items ≡ receipts.old.items) }
+{
+    match answer.copied(alloc) {
+        Ok(answer) => {
+            let receipt = CallReceipt {
+                call,
+                answered: *answered,
+                answer,
+            };
+            add_receipt(receipts, receipt)
+        }
+        Err(error) => {
+            drop(call);
+            Err(error)
+        }
+    }
+}
+
+/// Makes the receipt of a copy of a call, and appends it. Fails only when out of memory.
+fn add_copied(
+    receipts: &mut Vec<CallReceipt>,
+    alloc: Global,
+    call: &Call,
+    answered: &Receipt,
+    answer: &Answer,
+) -> Result<(), AllocError>
+    ensures ok { OnOk result (receipts.new.items ≡ receipts.old.items ++ answered_call (Some call.now) answered.now answer.now) }
+    ensures err { OnErr result (receipts.new.items ≡ receipts.old.items) }
+{
+    let call = call.copied(alloc)?;
+    add_answered(receipts, alloc, call, answered, answer)
+}
+
 /// Returns the call receipts of the outputs, in order.
 fn called_in(
     alloc: Global,
@@ -126,11 +183,10 @@ fn called_in(
     for out in outs {
         if let Out::Answer { ticket, answer } = out {
             if let Some(call) = calls.get(*ticket) {
-                receipts.push(CallReceipt {
-                    call: call.copied(alloc)?,
-                    answered,
-                    answer: answer.copied(alloc)?,
-                })?;
+                if let Err(error) = add_copied(&mut receipts, alloc, call, &answered, answer) {
+                    drop(receipts);
+                    return Err(error);
+                }
             }
         }
     }
@@ -187,13 +243,7 @@ fn answer_call(
     let Some(call) = call_for(alloc, waiting, *ticket, later)? else {
         return Ok(());
     };
-    let answer = answer.copied(alloc)?;
-    receipts.push(CallReceipt {
-        call,
-        answered: *answered,
-        answer,
-    })?;
-    Ok(())
+    add_answered(receipts, alloc, call, answered, answer)
 }
 
 /// Returns the call receipts of the outputs, in order. Moves each waiting call into the last of its
@@ -351,14 +401,14 @@ fn answer_own(
         pass,
         ask,
     };
-    let answer = answer.copied(alloc)?;
     let mut receipts = Vec::new(alloc);
-    receipts.push(CallReceipt {
-        call,
-        answered: *receipt,
-        answer,
-    })?;
-    Ok(receipts)
+    match add_answered(&mut receipts, alloc, call, receipt, answer) {
+        Ok(()) => Ok(receipts),
+        Err(error) => {
+            drop(receipts);
+            Err(error)
+        }
+    }
 }
 
 /// Answers the waiting calls of a step that accepts no request: each call that it answers gets its

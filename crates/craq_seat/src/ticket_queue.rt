@@ -1,5 +1,5 @@
 //! `TicketQueue`: items that wait under rising tickets; used by `desk` and `seat`.
-ghost use Rattle.std.specs.Prelude.{◌≡◌, ◌==◌, ◌++◌, ◌∷◌, [], filter, find, length, not, slice_index_or, take, true, ℕ, ◌<◌, IfErr, IfSome, IsSome, OnErr, OnOk};
+ghost use Rattle.std.specs.Prelude.{◌≡◌, ◌==◌, ◌++◌, ◌∷◌, [], filter, find, length, not, slice_index_or, take, true, ℕ, ◌<◌, ◌≤◌, IfErr, IfSome, IsSome, OnErr, OnOk};
 ghost use Rattle.std.specs.List.{remove};
 ghost use Rattle.std.specs.Option.{option_copied};
 ghost use Rattle.std.specs.Set.{remove_key};
@@ -21,8 +21,8 @@ pub trait Ticketed {
 
 /// Items that wait under tickets, in the order of arrival. A contract sees the list of them.
 ///
-/// While tickets rise in the order of arrival, a binary search finds an item. Removing the first
-/// one takes constant time; removing another moves the items of its shorter side. If a ticket does
+/// While tickets rise in the order of arrival, a binary search finds an item. Finding and removing
+/// the first one takes constant time; removing another moves the items of its shorter side. If a ticket does
 /// not rise, each item is looked at, until the queue is empty again.
 #[derive(Drop)]
 pub struct TicketQueue<T: Ticketed + Drop> {
@@ -56,7 +56,17 @@ fn scan<T: Ticketed + Drop>(items: &VecDeque<T>, ticket: Ticket) -> Option<usize
     None
 }
 
-/// Returns the index of the item under a ticket, by binary search among rising tickets.
+/// Returns the index to look at next: the first one, or else the middle of those that are left.
+fn probe(low: usize, high: usize) -> usize
+    requires { low < high }
+    ensures within { low ≤ result }
+    ensures below { result < high }
+{
+    if low == 0 { 0 } else { low + (high - low) / 2 }
+}
+
+/// Returns the index of the item under a ticket, by binary search among rising tickets. Looks at the
+/// first item first, since the next reply is most often for it.
 fn search<T: Ticketed + Drop>(items: &VecDeque<T>, ticket: Ticket) -> Option<usize>
     requires { Rises T.ticket_of items.now.items }
     ensures { IsPlace T.ticket_of ticket items.now.items result }
@@ -64,7 +74,7 @@ fn search<T: Ticketed + Drop>(items: &VecDeque<T>, ticket: Ticket) -> Option<usi
     let mut low = 0;
     let mut high = items.len();
     while low < high {
-        let middle = low + (high - low) / 2;
+        let middle = probe(low, high);
         let found = items[middle].ticket();
         if found == ticket {
             return Some(middle);

@@ -57,15 +57,15 @@ impl HeldReplies {
         self.replies.as_slice()
     }
 
-    /// Reserves room for one more reply. Fails only when out of memory; the replies are unchanged
-    /// in either case.
+    /// Reserves room for one more reply, and for no more: many clients have one alone. Fails only
+    /// when out of memory; the replies are unchanged in either case.
     pub fn reserve(&mut self) -> Result<(), AllocError>
         ensures replies { self.new.replies ≡ self.old.replies }
         ensures room { self.old.room ≤ self.new.room }
         ensures ok { OnOk result (0 < self.new.room) }
         ensures succeeds { 0 < self.old.room → IsOk result }
     {
-        self.replies.reserve(1)
+        self.replies.reserve_exact(1)
     }
 
     /// Keeps the reply to a new number; a ninth drops the reply to the smallest number. Fails only

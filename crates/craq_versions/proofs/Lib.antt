@@ -1,3 +1,4 @@
 pub mod Numbered
+pub mod Placed
 pub mod Taken
 pub mod Written

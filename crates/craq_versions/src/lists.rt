@@ -1,9 +1,9 @@
 //! The lists of a table, by key. A list without versions only reserves room. `table` calls this.
-ghost use Rattle.std.specs.Prelude.{◌≡◌, ◌≢◌, ℕ, ◌+◌, ◌<◌, ◌≤◌, List, [], ◌∷◌, None, IfOk, IsSome, IsOk, OnOk, OnErr, if◌then◌else◌};
+ghost use Rattle.std.specs.Prelude.{◌≡◌, ◌≢◌, ℕ, ◌+◌, ◌<◌, ◌≤◌, List, [], ◌∷◌, None, Some, IfOk, IsSome, IsOk, OnOk, OnErr, if◌then◌else◌};
 ghost use Rattle.craq_key_map.specs.Mapped.{entries_of};
 ghost use Rattle.craq_names.specs.Maps.{at_key, put_key, same_bytes};
 ghost use Rattle.craq_versions.specs.Versions.{AreVersions, CanPush, CanSettle, CanSettleAs};
-ghost use Rattle.craq_versions.specs.Tables.{table_of, held_at, held_in, only_clean, popped, room_at, pushed, settled, settled_as, KeepsRoom, KeepsOthersRoom};
+ghost use Rattle.craq_versions.specs.Tables.{table_in, table_of, held_at, held_in, key_at, only_clean, popped, room_at, pushed, settled, settled_as, KeepsRoom, KeepsOthersRoom};
 
 use crate::VersionList;
 use craq_key_map::KeyMap;
@@ -69,6 +69,27 @@ pub fn settle_in<V: Drop>(alloc: Global, lists: &mut Lists<V>, key: &Key, versio
     }
 }
 
+/// Makes a version of the key at a place the clean one with this held item, and drops the older
+/// ones.
+pub fn settle_as_at_in<V: Drop>(
+    alloc: Global,
+    lists: &mut Lists<V>,
+    place: usize,
+    version: Version,
+    held: V,
+)
+    requires placed { IsSome (key_at (table_in lists.old) place) }
+    requires next { (key : List ℕ) → key_at (table_in lists.old) place ≡ Some key → CanSettleAs (held_at (table_in lists.old) key).versions version }
+    ensures objects { (key : List ℕ) → key_at (table_in lists.old) place ≡ Some key → (table_in lists.new).objects ≡ put_key (table_in lists.old).objects key (settled_as (held_at (table_in lists.old) key) version held) }
+    ensures were_versions { (key : List ℕ) → key_at (table_in lists.old) place ≡ Some key → AreVersions (held_at (table_in lists.old) key).versions (held_at (table_in lists.old) key).clean }
+    ensures rooms { (key : List ℕ) → key_at (table_in lists.old) place ≡ Some key → KeepsOthersRoom (table_in lists.old) (table_in lists.new) key }
+    ensures place { key_at (table_in lists.new) place ≡ key_at (table_in lists.old) place }
+{
+    let mut list = lists.replace(place, VersionList::new(alloc));
+    list.settle_as(version, held);
+    lists.replace(place, list);
+}
+
 /// Makes a version of a key the clean one with this held item, and drops the older ones.
 pub fn settle_as_in<V: Drop>(
     alloc: Global,
@@ -83,9 +104,7 @@ pub fn settle_as_in<V: Drop>(
     ensures were_versions { AreVersions (held_at (table_of (entries_of lists.old)) key.now).versions (held_at (table_of (entries_of lists.old)) key.now).clean }
 {
     if let Some(place) = lists.find(key) {
-        let mut list = lists.replace(place, VersionList::new(alloc));
-        list.settle_as(version, held);
-        lists.replace(place, list);
+        settle_as_at_in(alloc, lists, place, version, held);
     }
 }
 

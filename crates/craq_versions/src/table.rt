@@ -1,15 +1,16 @@
 //! The version lists by key. A compacting past holds one such table.
-ghost use Rattle.std.specs.Prelude.{◌≡◌, ℕ, ◌+◌, ◌<◌, ◌≤◌, List, [], map, IfOk, IsOk, OnOk, OnErr, if◌then◌else◌};
+ghost use Rattle.std.specs.Prelude.{◌≡◌, ℕ, ◌+◌, ◌<◌, ◌≤◌, List, [], map, Some, IfNone, IfOk, IfSome, IsOk, IsSome, OnOk, OnErr, if◌then◌else◌};
 ghost use Rattle.std.specs.Option.{option_map};
 ghost use Rattle.std.specs.List.{AllByRecursion};
 ghost use Rattle.std.specs.List.Sorted.{IsStrictlySortedBy};
 ghost use Rattle.craq_names.specs.Maps.{at_key, key_cmp, put_key, same_bytes};
 ghost use Rattle.craq_key_map.specs.Mapped.{AreEntries};
 ghost use Rattle.craq_versions.specs.Versions.{AreVersions, CanPush, CanSettle, CanSettleAs};
-ghost use Rattle.craq_versions.specs.Tables.{held_at, held_in, only_clean, popped, room_at, pushed, settled, settled_as, KeepsRoom, KeepsOthersRoom};
+ghost use Rattle.craq_versions.specs.Tables.{held_at, held_in, key_at, only_clean, popped, room_at, pushed, settled, settled_as, shown, HasNoList, KeepsRoom, KeepsOthersRoom};
 
 use crate::lists::{
-    Lists, place, pop_in, push_in, put_clean_in, reserve_in, settle_as_in, settle_in,
+    Lists, place, pop_in, push_in, put_clean_in, reserve_in, settle_as_at_in, settle_as_in,
+    settle_in,
 };
 use crate::{Keys, Objects, VersionList};
 use craq_key_map::KeyMap;
@@ -27,12 +28,11 @@ pub struct ObjectTable<V> {
 }
 
 impl<V> Model for ObjectTable<V> {
-    ghost use Rattle.craq_key_map.specs.Mapped.{entries_of};
-    ghost use Rattle.craq_versions.specs.Tables.{Table, table_of};
+    ghost use Rattle.craq_versions.specs.Tables.{Table, table_in};
 
     ghost Value = { Table V };
 
-    ghost view = { λ t. table_of (entries_of t.lists) };
+    ghost view = { λ t. table_in t.lists };
 }
 
 impl<V: Drop> ObjectTable<V> {
@@ -125,6 +125,38 @@ impl<V: Drop> ObjectTable<V> {
         ensures rooms { KeepsOthersRoom self.old self.new key.now }
     {
         settle_as_in(self.alloc, &mut self.lists, key, version, held);
+    }
+
+    /// Returns the place of the key's list, `None` if the key has neither versions nor reserved
+    /// room. Allocates nothing.
+    pub fn place_of(&self, key: &Key) -> Option<usize>
+        ensures none { IfNone result (HasNoList self.now key.now) }
+        ensures some { IfSome result (λ place. key_at self.now place ≡ Some key.now) }
+    {
+        self.lists.find(key)
+    }
+
+    /// Lends the versions of the key at a place; the list is empty if the key only has reserved
+    /// room. Allocates nothing.
+    pub fn at(&self, place: usize) -> &VersionList<V>
+        requires { IsSome (key_at self.now place) }
+        ensures { (key : List ℕ) → key_at self.now place ≡ Some key → shown result.now ≡ at_key self.now.objects key }
+    {
+        self.lists.at(place)
+    }
+
+    /// Makes this version of the key at a place the clean one with this held item, and drops the
+    /// key's older versions. The version is in the key's list or follows its newest. The key keeps
+    /// its place. Allocates nothing.
+    pub fn settle_as_at(&mut self, place: usize, version: Version, held: V)
+        requires placed { IsSome (key_at self.old place) }
+        requires next { (key : List ℕ) → key_at self.old place ≡ Some key → CanSettleAs (held_at self.old key).versions version }
+        ensures objects { (key : List ℕ) → key_at self.old place ≡ Some key → self.new.objects ≡ put_key self.old.objects key (settled_as (held_at self.old key) version held) }
+        ensures were_versions { (key : List ℕ) → key_at self.old place ≡ Some key → AreVersions (held_at self.old key).versions (held_at self.old key).clean }
+        ensures rooms { (key : List ℕ) → key_at self.old place ≡ Some key → KeepsOthersRoom self.old self.new key }
+        ensures place { key_at self.new place ≡ key_at self.old place }
+    {
+        settle_as_at_in(self.alloc, &mut self.lists, place, version, held);
     }
 
     /// Returns the versions of a key, `None` if it has none. Allocates nothing.

@@ -7,10 +7,10 @@ ghost use Rattle.craq_names.specs.Maps.{key_cmp, same_bytes};
 ghost use Rattle.craq_commands.specs.Objects.{set_object};
 ghost use Rattle.craq_versions.specs.Versions.{versions_settled};
 ghost use Rattle.craq_compact_state.specs.declared.value_locations.ValueLocation.TheVariants.{Settled};
-ghost use Rattle.craq_compact_state.specs.Bytes.{bytes_at, bytes_of_entries, bytes_of_object, bytes_of_objects, bytes_of_writes, Counts};
+ghost use Rattle.craq_compact_state.specs.Bytes.{bytes_of_entries, bytes_of_object, bytes_of_objects, bytes_of_writes, Counts};
 ghost use Rattle.craq_compact_state.specs.Placed.{objects_of, later_of, settled_in, versions_of, IsPlaced, SettlesNext};
 
-use crate::objects::{objects_placed, settle_object};
+use crate::objects::objects_placed;
 use crate::value_locations::{ValueLocation, settled_of};
 use craq_commands::{Entry, Write};
 use craq_names::{Items, Key, Value, Version};
@@ -41,18 +41,6 @@ fn bytes_in(key: &Key, list: &VersionList<ValueLocation>) -> u64
     match settled_of(list) {
         None => 0,
         Some((_, value)) => bytes_of(key, value),
-    }
-}
-
-/// Returns the number of bytes of an object's key and settled value, 0 if it is absent. Looks the
-/// object up once. Allocates nothing.
-fn bytes_at(table: &ObjectTable<ValueLocation>, key: &Key) -> u64
-    requires { IsPlaced table.now }
-    ensures { result ≡ bytes_at (objects_of table.now) key.now }
-{
-    match table.list(key) {
-        None => 0,
-        Some(list) => bytes_in(key, list),
     }
 }
 
@@ -117,8 +105,9 @@ impl CountedTable {
         })
     }
 
-    /// Settles an object's next version, as `settle_object` does. The value that it replaces counts
-    /// no more. Allocates nothing.
+    /// Settles an object's next version: the oldest of its later ones, if there are some. The value
+    /// is moved here; the one that it replaces counts no more. Looks the object up once. Allocates
+    /// nothing.
     pub fn settle(&mut self, key: &Key, version: Version, value: Value)
         requires placed { IsPlaced self.old.table }
         requires next { SettlesNext (versions_of self.old.table key.now) version }
@@ -128,8 +117,12 @@ impl CountedTable {
         ensures placed { IsPlaced self.new.table }
         ensures counted { (more : ℕ) → Counts self.old.bytes (objects_of self.old.table) ((length key.now + length value) + more) → Counts self.new.bytes (objects_of self.new.table) more }
     {
-        let replaced = bytes_at(&self.table, key);
-        settle_object(&mut self.table, key, version, value);
+        let Some(place) = self.table.place_of(key) else {
+            return;
+        };
+        let replaced = bytes_in(key, self.table.at(place));
+        let settled = ValueLocation::Settled(value);
+        self.table.settle_as_at(place, version, settled);
         self.bytes = self.bytes.wrapping_sub(replaced);
     }
 }

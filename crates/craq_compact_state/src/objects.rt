@@ -1,13 +1,11 @@
 //! Objects by key, each with its versions. `held` and `applying` call this.
-ghost use Rattle.std.specs.Prelude.{◌≡◌, ◌≤◌, ℕ, List, [], T, IfOk, OnOk, drop, if◌then◌else◌, length};
+ghost use Rattle.std.specs.Prelude.{◌≡◌, ◌≤◌, ℕ, List, [], T, IfOk, OnOk, length};
 ghost use Rattle.std.specs.List.{AllByRecursion};
 ghost use Rattle.std.specs.FinMap.Entries.{is_sorted};
-ghost use Rattle.craq_names.specs.Maps.{key_cmp, put_key, same_bytes};
+ghost use Rattle.craq_names.specs.Maps.{key_cmp, put_key};
 ghost use Rattle.craq_names.specs.Places.{filled};
-ghost use Rattle.craq_commands.specs.Objects.{object_of, set_object};
-ghost use Rattle.craq_versions.specs.Versions.{versions_settled};
-ghost use Rattle.craq_compact_state.specs.declared.value_locations.ValueLocation.TheVariants.{Settled};
-ghost use Rattle.craq_compact_state.specs.Placed.{objects_of, later_of, shown, versions_of, IsPlaced, SettlesNext};
+ghost use Rattle.craq_commands.specs.Objects.{object_of};
+ghost use Rattle.craq_compact_state.specs.Placed.{objects_of, later_of, shown, IsPlaced};
 
 use crate::value_locations::{ValueLocation, settled_object, settled_of};
 use craq_key_map::sort_by_key;
@@ -26,24 +24,6 @@ pub fn object_in<'a>(table: &'a ObjectTable<ValueLocation>, key: &Key) -> (Versi
         None => (Version::new(0), &[]),
         Some(list) => settled_object(list),
     }
-}
-
-/// Settles an object's next version: the oldest of its later ones, if there are some. The value is
-/// moved here. Looks the object up once. Allocates nothing.
-pub fn settle_object(
-    table: &mut ObjectTable<ValueLocation>,
-    key: &Key,
-    version: Version,
-    value: Value,
-)
-    requires placed { IsPlaced table.old }
-    requires next { SettlesNext (versions_of table.old key.now) version }
-    ensures objects { objects_of table.new ≡ set_object (objects_of table.old) key.now version value }
-    ensures versions { (q : List ℕ) → versions_of table.new q ≡ (if same_bytes key.now q then versions_settled (versions_of table.old key.now) version (Settled value) else versions_of table.old q) }
-    ensures later { (q : List ℕ) → later_of table.new q ≡ drop (if same_bytes key.now q then 1 else 0) (later_of table.old q) }
-    ensures placed { IsPlaced table.new }
-{
-    table.settle_as(key, version, ValueLocation::Settled(value));
 }
 
 /// Inserts an object of one settled version, replacing the key's versions. Fails only when out of

@@ -2,5 +2,6 @@ pub mod Applies
 pub mod Counted
 pub mod Forgets
 pub mod Observed
+pub mod Others
 pub mod Seen
 pub mod Unsettled

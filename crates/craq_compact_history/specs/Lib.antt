@@ -1,4 +1,5 @@
 pub mod Counted
 pub mod Figures
 pub mod Forgotten
+pub mod Others
 pub mod Stored

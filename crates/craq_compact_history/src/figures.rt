@@ -45,7 +45,6 @@ pub fn figures_of(core: &ListCore) -> NodeFigures
     ensures bytes { (p : Plain) → ⟦<ListCore as Core>⟧.represents core.now p → CountsHeld p.past result.bytes }
 {
     let node = core.node();
-    let updates = node.waiting_updates.as_slice();
     let reads = node.waiting_reads.as_slice();
     NodeFigures {
         epoch: node.epoch.get(),
@@ -53,7 +52,7 @@ pub fn figures_of(core: &ListCore) -> NodeFigures
         is_running: is_running(core),
         length: node.history.len(),
         committed: node.history.acknowledged(),
-        waiting_updates: updates.len(),
+        waiting_updates: node.waiting_updates.len(),
         waiting_reads: reads.len(),
         objects: node.history.objects(),
         bytes: node.history.bytes(),

@@ -1,10 +1,12 @@
 //! `CompactingHistory`: a `History` over a compacted past and an index of clients' entries. `ListCore` is
 //! a node over it.
-ghost use Rattle.std.specs.Prelude.{◌≡◌, ◌+◌, ◌-◌, ◌%◌, ◌≤◌, ◌^◌, T, true, length, min, take, drop};
+ghost use Rattle.std.specs.Prelude.{◌≡◌, ◌+◌, ◌-◌, ◌%◌, ◌≤◌, ◌^◌, T, IsTrue, true, false, length, min, take, drop};
 ghost use Rattle.std.proofs.Props.{props};
 ghost use Rattle.std.specs.FinMap.Entries.{is_sorted};
+ghost use Rattle.std.specs.List.{list_any};
 ghost use Rattle.arrayvec.specs.ArrayVec.{array_vec_len};
 ghost use Rattle.craq_names.specs.Maps.{key_cmp};
+ghost use Rattle.craq_commands.specs.Kept as kept;
 ghost use Rattle.craq_commands.specs.Objects.{object_of, version_of};
 ghost use Rattle.craq_commands.specs.SingleCopy.{after_entries, is_new_to, window_of};
 ghost use Rattle.craq_model.specs.Deliveries.{is_applicable};
@@ -16,10 +18,11 @@ ghost use Rattle.craq_full_history.specs.Slots.{slots_after, slots_from};
 ghost use Rattle.craq_compact_state.specs.Held.{length_of};
 ghost use Rattle.craq_client_index.specs.Indexed.{Tells};
 ghost use Rattle.craq_compact_history.specs.Counted.{AreWritten, bytes_in, first_writes, new_objects};
+ghost use Rattle.craq_compact_history.specs.Others.{is_of};
 ghost use Rattle.craq_compact_history.specs.Stored.{stored};
 
 use craq_client_index::ClientIndex;
-use craq_commands::{Entry, Kept, RequestStatus, State, Write};
+use craq_commands::{Entry, Kept, RequestStatus, State, Write, look_in};
 use craq_compact_state::{HeldPast, Lookup};
 use craq_full_history::lookups::{follows, object_past, object_up_to};
 use craq_full_history::slots::{Slots, add_entries, is_new, said_in, slots_after};
@@ -61,6 +64,27 @@ fn between(held: &HeldPast, from: Seq, to: Seq) -> &[Entry]
 {
     let count = (to.get() - from.get()) as usize;
     &held.from(from)[..count]
+}
+
+/// The most entries among which those of a client are looked for one by one.
+const FEW_ENTRIES: usize = 64;
+
+/// Returns true exactly if one of these entries is of the client.
+fn has_entry_of(entries: &[Entry], client: ClientId) -> bool
+    ensures { result ≡ list_any (is_of client) entries.now }
+{
+    entries.iter().any(|entry| entry.client == client)
+}
+
+/// Returns true exactly if a number is new to a window.
+fn is_new_to_window(window: &[Kept], number: RequestNo) -> bool
+    ensures { result ≡ kept.is_new window.now number }
+{
+    match look_in(window, number) {
+        RequestStatus::New => true,
+        RequestStatus::Kept(_) => false,
+        RequestStatus::Stale(_) => false,
+    }
 }
 
 /// Returns how many of these writes make an object: those of version 1. At most 2^64 - 1.
@@ -169,6 +193,15 @@ impl CompactingHistory {
         object_past(newest, bytes, later, key).0
     }
 
+    /// Returns true only if no entry in memory is of the client. Its window is then that of the
+    /// state. Returns false if many entries are in memory, without a look at them.
+    fn has_no_entry_of(&self, client: ClientId) -> bool
+        ensures { IsTrue result → list_any (is_of client) self.now.held.entries ≡ false }
+    {
+        let entries = self.entries();
+        entries.len() <= FEW_ENTRIES && !has_entry_of(entries, client)
+    }
+
     /// Returns the slots of a client's window after all entries, given its window in the state.
     fn slots(&self, window: &[Kept], client: ClientId) -> Slots
         requires window { window.now ≡ window_of self.now.held.state client }
@@ -190,6 +223,9 @@ impl CompactingHistory {
         ensures { result ≡ is_new_to (after_entries (newest_in (⟦<CompactingHistory as History>⟧.past self.now)) later.now) client number }
     {
         let window = self.held.window(client);
+        if self.has_no_entry_of(client) && !has_entry_of(later, client) {
+            return is_new_to_window(window, number);
+        }
         let mut slots = self.slots(window, client);
         let first = window.len() + self.entries().len();
         add_entries(&mut slots, client, later, first);
@@ -265,6 +301,9 @@ impl History for CompactingHistory {
 
     fn said(&self, client: ClientId, number: RequestNo) -> RequestStatus<'_> {
         let window = self.held.window(client);
+        if self.has_no_entry_of(client) {
+            return look_in(window, number);
+        }
         let slots = self.slots(window, client);
         said_in(slots.as_slice(), window, self.entries(), number)
     }

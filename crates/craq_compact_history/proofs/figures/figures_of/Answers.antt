@@ -5,8 +5,8 @@ use Rattle.craq_compact_history.proofs.figures.figures_of.Goals as goal
 
 pub returns-clause-figures : goal.returns-clause-figures
 returns-clause-figures c = λ p h.
-    figures_told p _ c.get.result c.len.result c.acknowledged.result (length c.as_slice-updates.result.now) (length c.as_slice-reads.result.now) c.objects.result c.bytes.result c.node-node.result.now.ready c.is_running.result h.sound (c.node-node.ensures p h) c.get.ensures refl
-    (c.is_running.ensures p h) c.len.ensures c.acknowledged.ensures (ap length c.as_slice-updates.ensures.value) (ap length c.as_slice-reads.ensures.value) c.objects.ensures
+    figures_told p _ c.get.result c.len.result c.acknowledged.result c.len-2.result (length c.as_slice-reads.result.now) c.objects.result c.bytes.result c.node-node.result.now.ready c.is_running.result h.sound (c.node-node.ensures p h) c.get.ensures refl
+    (c.is_running.ensures p h) c.len.ensures c.acknowledged.ensures c.len-2.ensures (ap length c.as_slice-reads.ensures.value) c.objects.ensures
 
 pub returns-clause-bytes : goal.returns-clause-bytes
 returns-clause-bytes c = λ p h.

@@ -108,13 +108,14 @@ impl<T: Drop> QueueState<T> {
         sleeps
     }
 
-    /// Moves all completions to the end of `into`, or none when out of memory. From then on only
-    /// what comes later is news.
+    /// Moves all completions to the end of `into`, or none when out of memory. Only later
+    /// completions are news then. Marks the owner as awake.
     pub(crate) fn take(&mut self, into: &mut Vec<Completion<T>>)
         ensures none_lost { into.new.items ++ self.new.completions ≡ into.old.items ++ self.old.completions }
         ensures news { self.new.reported ≡ false → self.new.completions ≡ [] }
-        ensures others { self.new ≡ record self.old { completions = self.new.completions; reported = self.new.reported } }
+        ensures others { self.new ≡ record self.old { completions = self.new.completions; reported = self.new.reported; sleeps = false } }
     {
+        self.sleeps = false;
         self.reported = into.append(&mut self.completions).is_err();
     }
 

@@ -49,7 +49,7 @@ fn is_next(list: &VersionList<Value>, version: u64) -> bool
 }
 
 /// Returns true if the version can become the first, whether or not it is held.
-fn can_settle_as(list: &VersionList<Value>, version: u64) -> bool
+pub(crate) fn can_settle_as(list: &VersionList<Value>, version: u64) -> bool
     ensures { IsTrue result → CanSettleAs list.now.versions version }
 {
     if holds(list, version) {

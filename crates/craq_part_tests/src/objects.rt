@@ -3,6 +3,7 @@ ghost use Rattle.std.specs.Prelude.{IsTrue};
 ghost use Rattle.craq_versions.specs.Versions.{CanPush, CanSettle};
 ghost use Rattle.craq_versions.specs.Tables.{held_at};
 
+use crate::lists::can_settle_as;
 use crate::say;
 use craq_names::{Key, Refusal, Value, Version};
 use craq_versions::{ObjectTable, VersionList};
@@ -150,6 +151,8 @@ enum TableAsk {
     Reserve,
     Push(u64, u8),
     Settle(u64),
+    /// Makes this version, with this value, the clean one at the key's place.
+    SettleAt(u64, u8),
 }
 
 fn push_at(
@@ -172,6 +175,26 @@ fn settle_at(table: &mut ObjectTable<Value>, key: &Key, version: u64) -> Result<
     }
     table.settle(key, Version::new(version));
     Ok(())
+}
+
+/// Makes a version the clean one at the key's place. Returns false if the key has no place.
+fn settle_at_place(
+    alloc: Global,
+    table: &mut ObjectTable<Value>,
+    key: &Key,
+    version: u64,
+    byte: u8,
+) -> Result<bool, Refusal> {
+    let value = Value::new(alloc, &[byte])?;
+    let Some(place) = table.place_of(key) else {
+        return Ok(false);
+    };
+    if !can_settle_as(table.at(place), version) {
+        return Err(Refusal::BadNumber);
+    }
+    let settled = Version::new(version);
+    table.settle_as_at(place, settled, value);
+    Ok(true)
 }
 
 fn reserve_two(alloc: Global, table: &mut ObjectTable<Value>, key: &Key) -> Result<(), Refusal> {
@@ -198,6 +221,10 @@ where
             say(rt, "push", push_at(rt.alloc(), table, key, version, byte))
         }
         TableAsk::Settle(version) => say(rt, "settle", settle_at(table, key, version)),
+        TableAsk::SettleAt(version, byte) => {
+            let settled = settle_at_place(rt.alloc(), table, key, version, byte);
+            say(rt, "settle at", settled)
+        }
     }
 }
 
@@ -262,6 +289,20 @@ static TABLE_PUSHED: [(u8, TableAsk); 2] = [
     (b'a', TableAsk::Push(1, b'x')),
 ];
 
+// A key without a list has no place; one whose list only has room has no version to settle. The
+// others keep theirs.
+static PLACED: [(u8, TableAsk); 9] = [
+    (b'c', TableAsk::SettleAt(1, b'w')),
+    (b'c', TableAsk::ReserveKey),
+    (b'c', TableAsk::SettleAt(1, b'w')),
+    (b'b', TableAsk::Push(7, b'x')),
+    (b'a', TableAsk::Push(9, b'y')),
+    (b'b', TableAsk::SettleAt(8, b'z')),
+    (b'b', TableAsk::SettleAt(7, b'w')),
+    (b'b', TableAsk::List),
+    (b'a', TableAsk::List),
+];
+
 /// Prints the results of calls on the versions of one object, and on a table of objects in
 /// ascending key order.
 pub(crate) fn run<R: AllocGlobal + Print>(rt: &R) -> io::Result<()> {
@@ -272,5 +313,6 @@ pub(crate) fn run<R: AllocGlobal + Print>(rt: &R) -> io::Result<()> {
     ask_table(rt, &TABLE_SETTLED)?;
     ask_table(rt, &RISING)?;
     ask_table(rt, &TABLE_RESERVED)?;
-    ask_table(rt, &TABLE_PUSHED)
+    ask_table(rt, &TABLE_PUSHED)?;
+    ask_table(rt, &PLACED)
 }

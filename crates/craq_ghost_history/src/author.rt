@@ -1,4 +1,5 @@
-//! `Author`: an author of a history's entries; and `Right`, which exists in the proofs alone.
+//! `Author`: an author of a history's entries; `Permit`, which one entry uses up; and `Right`, which
+//! exists in the proofs alone.
 use std::collections::LinkedList;
 
 /// An author: it adds entries to a history.
@@ -10,11 +11,23 @@ pub enum Author {
     Client(u64),
 }
 
-/// The right to add entries. No value of it is made.
+/// Names a permit: the client that gave it, and its number. At most one entry uses it up.
+#[derive(Clone, Copy, Debug, PartialEq, Eq)]
+pub struct Permit {
+    pub client: u64,
+    pub number: u64,
+}
+
+/// The right to add entries, and to use permits up. No value of it is made.
 pub enum Right {
     Nothing,
     /// The right to the entries of this author.
     One(Author),
-    /// The right to the entries of each author but these nodes, and the clients below this number.
+    /// The right to the entries of this client, and to its permits from this number on.
+    Caller { client: u64, next: u64 },
+    /// The right to use this permit up.
+    Using(Permit),
+    /// The right to the entries of each author but these nodes, and the clients below this number;
+    /// and to all permits of the other clients.
     Others { used: LinkedList<Author>, next: u64 },
 }

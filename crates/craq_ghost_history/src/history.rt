@@ -1,9 +1,9 @@
 //! `History`: a list of entries that only grows, in the proofs alone; and the seats that know
 //! prefixes of it.
 ghost use Rattle.std.specs.Prelude.{◌≡◌, [], Some};
-ghost use Rattle.craq_ghost_history.specs.Authors.{MayGive, Owns};
+ghost use Rattle.craq_ghost_history.specs.Authors.{MayGive, MayUse, Owns};
 ghost use Rattle.craq_ghost_history.specs.Histories.{MayAdd};
-ghost use Rattle.craq_ghost_history.specs.Views.{Extends, Looks, after_giving, given, informed, witness};
+ghost use Rattle.craq_ghost_history.specs.Views.{Extends, Looks, after_giving, after_permitting, given, informed, permitted, witness};
 
 use crate::author::{Author, Right};
 use atomic_table::{Join, Play, Seat, Split, Table, TableRule};
@@ -12,12 +12,16 @@ use std::collections::LinkedList;
 use std::marker::{Brand, PhantomData};
 use std::sync::Mutex;
 
-/// Gives the author of each entry, and the rule that every history keeps.
+/// Gives the author of each entry, the permit that it uses up, and the rule that every history
+/// keeps.
 pub trait HistoryRule<E> {
-    ghost use Rattle.std.specs.Prelude.{List};
+    ghost use Rattle.std.specs.Prelude.{List, Option};
     ghost use Rattle.craq_ghost_history.specs.declared.author.Author.{Author};
+    ghost use Rattle.craq_ghost_history.specs.declared.author.Permit.{Permit};
 
     ghost author: { E → Author };
+
+    ghost permit: { E → Option Permit };
 
     ghost holds: { List E → Type 0 };
 }
@@ -36,11 +40,12 @@ impl Named for Brand {
 }
 
 /// The knowledge of a seat: a prefix of the history that it has seen, another that it has learned
-/// from a seat, and its right. No value of it is made.
+/// from a seat, its right, and the permits that it got from that seat. No value of it is made.
 pub struct View<E> {
     pub seen: LinkedList<E>,
     pub reported: LinkedList<E>,
     pub right: Right,
+    pub lent: Right,
 }
 
 /// The rule of the table under a history.
@@ -51,7 +56,7 @@ pub struct Law<X> {
 impl<E, X: HistoryRule<E>> TableRule<u8, View<E>, ()> for Law<X> {
     ghost use Rattle.craq_ghost_history.specs.Views.{Kept, first_view};
 
-    ghost holds = { λ key s. Kept X.author X.holds s.views };
+    ghost holds = { λ key s. Kept X.author X.permit X.holds s.views };
 
     ghost first = { λ key. first_view };
 }
@@ -128,7 +133,18 @@ impl<E, K: Choosing> Split<View<E>> for Giving<K> {
     ghost right = { λ v. given K.chosen v };
 }
 
-/// A seat learns the prefix that another has seen.
+/// A seat gives the next of its permits away.
+struct Permitting;
+
+impl<E> Split<View<E>> for Permitting {
+    ghost use Rattle.craq_ghost_history.specs.Views.{after_permitting, permitted};
+
+    ghost left = { λ v. after_permitting v };
+
+    ghost right = { λ v. permitted v };
+}
+
+/// A seat learns the prefix that another has seen, and gets its permits.
 struct Hearing;
 
 impl<E> Join<View<E>> for Hearing {
@@ -154,7 +170,8 @@ impl<E, X: HistoryRule<E>, N: Named> History<E, X, N> {
     pub(crate) fn add(&self, seat: &mut Seat<u8, View<E>>, entry: &E)
         requires table { seat.old.table_id ≡ N.history }
         requires owns { Owns seat.old.me.0.right (X.author entry.now) }
-        requires may { MayAdd X.author X.holds seat.old.me.0.seen seat.old.me.0.reported entry.now }
+        requires uses { MayUse seat.old.me.0.lent (X.permit entry.now) }
+        requires may { MayAdd X.author X.permit X.holds seat.old.me.0.seen seat.old.me.0.reported entry.now }
         ensures table { (seat.new.table_id ≡ N.history) × (seat.new.me.1 ≡ seat.old.me.1) }
         ensures adds { Extends X.author X.holds seat.old.me.0 entry.now seat.new.me.0 }
     {
@@ -165,7 +182,8 @@ impl<E, X: HistoryRule<E>, N: Named> History<E, X, N> {
         requires entry { K.entry ≡ Some entry.now }
         requires table { seat.old.table_id ≡ N.history }
         requires owns { Owns seat.old.me.0.right (X.author entry.now) }
-        requires may { MayAdd X.author X.holds seat.old.me.0.seen seat.old.me.0.reported entry.now }
+        requires uses { MayUse seat.old.me.0.lent (X.permit entry.now) }
+        requires may { MayAdd X.author X.permit X.holds seat.old.me.0.seen seat.old.me.0.reported entry.now }
         ensures table { (seat.new.table_id ≡ N.history) × (seat.new.me.1 ≡ seat.old.me.1) }
         ensures adds { Extends X.author X.holds seat.old.me.0 entry.now seat.new.me.0 }
     {
@@ -216,7 +234,16 @@ impl<E, X: HistoryRule<E>, N: Named> History<E, X, N> {
         self.table.shared.split_seat::<Giving<K>>(seat)
     }
 
-    /// Tells the seat what another has seen, which is spent.
+    /// Returns a seat with the next permit of this one, which has seen as much.
+    pub(crate) fn permit(&self, seat: &mut Seat<u8, View<E>>) -> Seat<u8, View<E>>
+        requires table { seat.old.table_id ≡ N.history }
+        ensures left { (seat.new.table_id ≡ N.history) × (seat.new.me ≡ (after_permitting seat.old.me.0, seat.old.me.1)) }
+        ensures given { (result.table_id ≡ N.history) × (result.me ≡ (permitted seat.old.me.0, [])) }
+    {
+        self.table.shared.split_seat::<Permitting>(seat)
+    }
+
+    /// Tells the seat what another has seen, and gives it the other's permits. The other is spent.
     pub(crate) fn hear(&self, seat: &mut Seat<u8, View<E>>, other: Seat<u8, View<E>>)
         requires table { (seat.old.table_id ≡ N.history) × (other.table_id ≡ N.history) × (other.me.1 ≡ []) }
         ensures { (seat.new.table_id ≡ N.history) × (seat.new.me ≡ (informed seat.old.me.0 other.me.0, seat.old.me.1)) }

@@ -6,6 +6,7 @@ ghost use Rattle.craq_ghost_history.specs.declared.author.Author.TheVariants.{Cl
 
 use crate::author::Author;
 use crate::history::{History, HistoryRule, Law, Named, View};
+use crate::token::Token;
 use crate::writer::Writer;
 use atomic_table::{Seat, Table};
 use std::alloc::{AllocError, Global};
@@ -119,6 +120,14 @@ impl<E, X: HistoryRule<E>, N: Named> Registrar<E, X, N> {
         self.used.reserve(1)
     }
 
+    /// Returns a token that has seen nothing yet.
+    pub fn token(&mut self, history: &History<E, X, N>) -> Token<E, X, N>
+        ensures token { result ≡ [] }
+        ensures same { self.new ≡ self.old }
+    {
+        Token::of(history.tell(&mut self.seat))
+    }
+
     /// Returns the number of the next client.
     pub fn next_client(&self) -> u64
         ensures { result ≡ self.now.next }
@@ -126,10 +135,10 @@ impl<E, X: HistoryRule<E>, N: Named> Registrar<E, X, N> {
         self.next
     }
 
-    /// Gives the right to the entries of a new session of a client. None, with nothing changed:
-    /// 2^64 - 1 were given.
+    /// Gives the right to the entries of a new session of a client, and to all its permits. None,
+    /// with nothing changed: 2^64 - 1 were given.
     pub fn client(&mut self, history: &History<E, X, N>) -> Option<Writer<E, X, N>>
-        ensures given { IfSome result (λ w. (w.author ≡ Client self.old.next) × (w.seen ≡ []) × (self.new.next ≡ self.old.next + 1)) }
+        ensures given { IfSome result (λ w. (w.author ≡ Client self.old.next) × (w.next ≡ 0) × (w.seen ≡ []) × (self.new.next ≡ self.old.next + 1)) }
         ensures none { IsNone result → (self.old.next ≡ 2 ^ 64 - 1) × (self.new ≡ self.old) }
     {
         if self.next == u64::MAX {

@@ -88,7 +88,8 @@ of_line (AtMaster (books.Join id)) lines rest l number x e k = absurd k
 of_line (AtMaster (books.Remove stopped stop)) lines rest l number x e k = absurd k
 of_line (AtMaster books.Tick) lines rest l number x e k = absurd k
 
-ask_of_line : (lines rest : List MergedStep) (number : ℕ) (x : Asked) → IsIn (asks_from number (map (taken_among lines) rest)) x → IsAskOf rest number x
+-- a request among the lines is that of a line
+pub ask_of_line : (lines rest : List MergedStep) (number : ℕ) (x : Asked) → IsIn (asks_from number (map (taken_among lines) rest)) x → IsAskOf rest number x
 unfolding asks_from
 ask_of_line lines [] number x i = absurd i
 ask_of_line lines (l ∷ rest) number x i =

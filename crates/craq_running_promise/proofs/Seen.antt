@@ -10,21 +10,20 @@ use Rattle.craq_model.specs.declared.step.Out.TheVariants as outs
 use Rattle.craq_model.specs.Plain.{Plain}
 use Rattle.craq_runs.specs.declared.run.Taken.{Taken}
 use Rattle.craq_runs.specs.Chain.{opening_chain}
-use Rattle.craq_runs.specs.Seen.{Asked, Answered, ask_in, ask_with, answers_from, asks_from, is_ticket}
+use Rattle.craq_runs.specs.Seen.{Asked, Answered, ask_with, answers_from, asks_from, is_ticket}
 use Rattle.craq_runs.specs.Typed.{IsTypedRunOf}
 use Rattle.craq_seat.specs.declared.journal.BookEvent.{BookEvent}
-use Rattle.craq_seat.specs.declared.journal.BookEvent.TheVariants as books
 use Rattle.craq_seat.specs.declared.journal.Record.{Record}
 use Rattle.craq_seat.specs.Calls.{Called}
-use Rattle.craq_seat.specs.Merge.{AtMaster, AtNode, Happening, MergedStep, book_line, move_among, node_line}
+use Rattle.craq_seat.specs.Merge.{AtMaster, AtNode, Happening, MergedStep, book_line, node_line}
 use Rattle.craq_causality.specs.Authors.{IsNodeAfter, first_of, lines_of}
 use Rattle.craq_causality.specs.Causal.{AreCausal, AreFew, AreTyped}
 use Rattle.craq_causality.proofs.Nodes.{same_or_not}
-use Rattle.craq_causality.proofs.Orders.{AreApart, IsApart, IsIn, all_in, from_contains, in_either, in_get, of_map, to_at, to_contains}
+use Rattle.craq_causality.proofs.Orders.{AreApart, IsApart, IsIn, all_in, from_contains, in_get, of_map, to_at, to_contains}
 use Rattle.craq_causality.proofs.Reached.{AreSound}
 use Rattle.craq_causality.proofs.Start.{is_typed_run, sound, start}
 use Rattle.craq_causality.proofs.Walk.{taken_among}
-use Rattle.craq_merge.proofs.Named.{IsAskOf, IsFound, finds, one_ticket}
+use Rattle.craq_merge.proofs.Named.{IsAskOf, IsFound, ask_of_line, finds, one_ticket}
 use Rattle.craq_merge.proofs.Seen.{answered_at, asked_at}
 use Rattle.craq_store_history.specs.declared.entry.Entry.{Entry}
 use Rattle.craq_store_history.specs.Chains.{ChainHolds, IsHistory}
@@ -76,31 +75,6 @@ one_line chain members id lines ticket l m e causal at i k a b s t =
     ]
 
 -- ---- requests
-
-of_line : (h : Happening) (lines rest : List MergedStep) (l : MergedStep) (number : ℕ) (x : Asked) → l.event ≡ h → IsIn (ask_in number l.step.ticket (move_among lines l.node h)) x → IsAskOf (l ∷ rest) number x
-of_line (AtNode (events.Ask ask)) lines rest l number x e (inl s) =
-    let n : number + 0 ≡ number = omega arith in
-    record { place = 0; line = l; ask = ask; at = refl; event = e; is = rw n (sym s) }
-of_line (AtNode (events.Ask ask)) lines rest l number x e (inr k) = absurd k
-of_line (AtNode (events.Deliver m)) lines rest l number x e k = absurd k
-of_line (AtNode events.Tick) lines rest l number x e k = absurd k
-of_line (AtNode events.Stop) lines rest l number x e k = absurd k
-of_line (AtMaster (books.Join id)) lines rest l number x e k = absurd k
-of_line (AtMaster (books.Remove stopped stop)) lines rest l number x e k = absurd k
-of_line (AtMaster books.Tick) lines rest l number x e k = absurd k
-
-ask_of_line : (lines rest : List MergedStep) (number : ℕ) (x : Asked) → IsIn (asks_from number (map (taken_among lines) rest)) x → IsAskOf rest number x
-unfolding asks_from
-ask_of_line lines [] number x i = absurd i
-ask_of_line lines (l ∷ rest) number x i =
-    elim (in_either (ask_in number l.step.ticket (move_among lines l.node l.event)) (asks_from (number + 1) (map (taken_among lines) rest)) x i) [
-      | inl k ↦ of_line l.event lines rest l number x refl k
-      | inr k ↦ (
-          let t = ask_of_line lines rest (number + 1) x k in
-          let n : number + suc t.place ≡ number + 1 + t.place = omega arith in
-          record { place = suc t.place; line = t.line; ask = t.ask; at = t.at; event = t.event; is = rw n t.is }
-          )
-    ]
 
 named_so : (x : Asked) (node ticket : ℕ) → ((x.node == node) && is_ticket x.ticket ticket) ≡ true → (x.node ≡ node) × (x.ticket ≡ Some ticket)
 named_so x node ticket h = by_ticket x.ticket refl

@@ -1,6 +1,6 @@
 -- The lines of a call in the history of its store.
 use Rattle.std.proofs.Common.{◌≡◌, ◌∙◌, ◌<◌, ◌≤◌, ◌+◌, ℕ, suc, List, [], ◌∷◌, ◌++◌, Option, Some, None, length, refl, sym, ap, subst, arith, inl, inr, append_assoc, append-nil, eq-eqb, length-append}
-use Rattle.std.specs.Prelude.{Contains, ◌⊎◌, slice_get}
+use Rattle.std.specs.Prelude.{Contains, slice_get}
 use Rattle.std.specs.declared.snapshot.Snapshot.{Snapshot}
 use mathlib.Core.List.{IsPrefix}
 use Rattle.craq_names.specs.declared.name.NodeName.{NodeName}
@@ -17,16 +17,16 @@ use Rattle.craq_seat.specs.Calls.{Called}
 use Rattle.craq_seat.specs.Merge.{AtNode as HappensAtNode, MergedStep, node_line, run_of}
 use Rattle.craq_causality.specs.Causal.{AreFew}
 use Rattle.craq_causality.proofs.Numbers.{get_within}
-use Rattle.craq_causality.proofs.Orders.{IsIn, from_contains, in_either, in_left, in_right, to_contains}
+use Rattle.craq_causality.proofs.Orders.{IsIn, from_contains, in_left, in_right, to_contains}
 use Rattle.craq_promise.proofs.Promised.{explained}
 use Rattle.craq_ghost_history.specs.Histories.{AreComparable}
 use Rattle.craq_store_history.specs.declared.entry.CallId.{CallId}
 use Rattle.craq_store_history.specs.declared.entry.Entry.{Entry}
-use Rattle.craq_store_history.specs.declared.entry.Entry.TheVariants.{AtMaster, AtNode, Called as WasMade, Opened}
+use Rattle.craq_store_history.specs.declared.entry.Entry.TheVariants.{AtMaster, AtNode, Called as WasMade, Opened, Withdrawn}
 use Rattle.craq_store_history.specs.Chains.{Accepts, ChainHolds, IsHistory, WasCalled}
 use Rattle.craq_store_history.specs.Entries.{line_in, lines_in, members_in, node_record}
 use Rattle.craq_store_history.proofs.Adding.{chain_is_a_run}
-use Rattle.craq_store_history.proofs.Between.{accepted_later, may_call, once}
+use Rattle.craq_store_history.proofs.Between.{accepted_later, called_once, may_call}
 use Rattle.craq_store_history.proofs.Lines.{lines_append, lines_prefix}
 use Rattle.craq_store_parts.specs.Recorded.{HasTaken}
 use Rattle.craq_store_parts.specs.Witnessed.{IsWitnessed}
@@ -74,31 +74,17 @@ below_length xs before x rest is =
     let long : length xs ≡ length before + suc (length rest) = ap length is ∙ length-append before (x ∷ rest) in
     omega (arith, long)
 
--- ---- a call is made once
-
-placed : (log before rest : List Entry) (call : CallId) (name other : NodeName) (ask a : Snapshot Ask) → IsHistory log → log ≡ before ++ WasMade call name ask ∷ rest
-    → IsIn before (WasMade call other a) ⊎ IsIn (WasMade call name ask ∷ rest) (WasMade call other a) → WasMade call name ask ≡ WasMade call other a
-placed log before rest call name other ask a h is (inl l) = absurd (once log before rest call name other ask a h is (to_contains before (WasMade call other a) l))
-placed log before rest call name other ask a h is (inr (inl e)) = e
-placed log before rest call name other ask a h is (inr (inr r)) =
-    let first : Entry = WasMade call name ask in
-    let second : Entry = WasMade call other a in
-    let s = split_in rest second r in
-    let on : log ≡ (before ++ first ∷ s.before) ++ second ∷ s.rest = is ∙ (ap (λ (l : List Entry). before ++ first ∷ l) s.is ∙ sym (append_assoc before (first ∷ s.before) (second ∷ s.rest))) in
-    absurd (once log (before ++ first ∷ s.before) s.rest call other name a ask h on (in_here before first s.before))
-
 -- the request of a call, or another where the entry is none
 asked_by : Ask → Entry → Ask
 asked_by other (Opened chain members) = other
 asked_by other (WasMade call name ask) = ask.value
 asked_by other (AtNode name stamp event pass step call) = other
 asked_by other (AtMaster chain stamp event pass step) = other
+asked_by other (Withdrawn call) = other
 
 same_call : (log : List Entry) (call : CallId) (name other : NodeName) (ask a : Snapshot Ask) → IsHistory log → Contains log (WasMade call name ask) → Contains log (WasMade call other a) → ask.value ≡ a.value
 unfolding asked_by
-same_call log call name other ask a h one two =
-    let s = split log (WasMade call name ask) one in
-    ap (asked_by ask.value) (placed log s.before s.rest call name other ask a h s.is (in_either s.before (WasMade call name ask ∷ s.rest) (WasMade call other a) (subst (λ (l : List Entry). IsIn l (WasMade call other a)) s.is (from_contains log (WasMade call other a) two))))
+same_call log call name other ask a h one two = ap (asked_by ask.value) (called_once log call name other ask a h one two)
 
 -- ---- the line of a node's step
 

@@ -1,5 +1,5 @@
 -- Entries that each author may add, and the history that it has then seen.
-use Rattle.std.proofs.Common.{◌≡◌, ◌≢◌, ℕ, ◌==◌, if◌then◌else◌, List, [], ◌∷◌, ◌++◌, Option, Some, None, Ok, refl, sym, ap, subst, ◌∙◌, inl, inr, append-nil, append_assoc, eq-eqb, ne_eqb}
+use Rattle.std.proofs.Common.{◌≡◌, ◌≢◌, ℕ, ◌==◌, if◌then◌else◌, List, [], ◌∷◌, ◌++◌, Option, Some, None, Ok, refl, sym, ap, subst, ◌∙◌, inl, inr, append-nil, append_assoc, eq-eqb, ne_eqb, arith}
 use mathlib.Core.List.{IsPrefix}
 use Rattle.std.specs.declared.snapshot.Snapshot.{Snapshot}
 use Rattle.craq_names.specs.declared.name.NodeName.{NodeName}
@@ -24,16 +24,17 @@ use Rattle.craq_ghost_history.specs.Histories.{IsAdded, MayAdd}
 use Rattle.craq_ghost_history.proofs.Prefixes.{prefix_append}
 use Rattle.craq_store_history.specs.declared.entry.CallId.{CallId}
 use Rattle.craq_store_history.specs.declared.entry.Entry.{Entry}
-use Rattle.craq_store_history.specs.declared.entry.Entry.TheVariants.{Opened, Called, AtNode, AtMaster}
-use Rattle.craq_store_history.specs.Entries.{author_of, first_some, line_in, lines_in, master_record, members_in, node_record, opened_by}
+use Rattle.craq_store_history.specs.declared.entry.Entry.TheVariants.{Opened, Called, AtNode, AtMaster, Withdrawn}
+use Rattle.craq_store_history.specs.Entries.{author_of, first_some, line_in, lines_in, master_record, members_in, node_record, opened_by, permit_of}
 use Rattle.craq_store_history.specs.Chains.{AreCalls, ChainHolds, IsHistory}
 use Rattle.craq_store_history.specs.Steps.{IsMasterAt, IsNodeAt, MayMake, MayOpen, MayOrder, MayStep}
 use Rattle.craq_store_history.proofs.Calls.{accepts_later, below_later, calls_more}
+use Rattle.craq_store_history.proofs.Permits.{once_more}
 use Rattle.craq_store_history.proofs.Lines.{lines_more, lines_prefix, members_more, members_prefix, members_quiet, not_opened, own_same}
 
 pub empty : IsHistory []
 unfolding lines_in members_in
-empty = record { chains = λ c. refl; calls = tt }
+empty = record { chains = λ c. refl; calls = tt; once = λ p. omega arith }
 
 -- ---- one chain
 
@@ -74,8 +75,8 @@ node_here name seen reported log stamp event pass step call next m h kept heard 
     (joined_later m.at.members (lines_in c seen) (lines_in c log) name.node (lines_prefix c seen log kept) m.at.joined, sent_later (lines_in c reported) (lines_in c log) event.value (lines_prefix c reported log heard) m.sent))
     (typed_more (lines_in c log) (node_line name.node r) old.1 m.typed)
 
-pub node_may : (name : NodeName) (seen reported : List Entry) (stamp : ℕ) (event : Snapshot Event) (pass : ℕ) (step : Snapshot Step) (call : Option CallId) (next : Plain) → MayStep name seen reported (node_record stamp event pass step) call next → MayAdd author_of IsHistory seen reported (AtNode name stamp event pass step call)
-node_may name seen reported stamp event pass step call next m log h kept heard own =
+pub node_may : (name : NodeName) (seen reported : List Entry) (stamp : ℕ) (event : Snapshot Event) (pass : ℕ) (step : Snapshot Step) (call : Option CallId) (next : Plain) → MayStep name seen reported (node_record stamp event pass step) call next → MayAdd author_of permit_of IsHistory seen reported (AtNode name stamp event pass step call)
+node_may name seen reported stamp event pass step call next m log h kept heard own free =
     let e : Entry = AtNode name stamp event pass step call in
     record {
       chains = λ c. elim (same_or_not name.chain c) [
@@ -83,6 +84,7 @@ node_may name seen reported stamp event pass step call next m log h kept heard o
         | inr d ↦ quiet c log e refl (rw (ne_eqb name.chain c d) refl) (h.chains c)
       ];
       calls = calls_more [] log e h.calls (accepts_later reported log name event.value call heard m.called);
+      once = once_more log e h.once free;
     }
 
 pub node_seen : (name : NodeName) (seen reported new : List Entry) (stamp : ℕ) (event : Snapshot Event) (pass : ℕ) (step : Snapshot Step) (call : Option CallId) (next : Plain) → MayStep name seen reported (node_record stamp event pass step) call next → IsAdded author_of seen reported (AtNode name stamp event pass step call) new → IsNodeAt name new next stamp
@@ -122,8 +124,8 @@ master_here c seen reported log stamp event pass step next m h kept heard own =
     (stopped_later (lines_in c reported) (lines_in c log) event (lines_prefix c reported log heard) m.stopped))
     (typed_more (lines_in c log) (book_line r) old.1 tt)
 
-pub master_may : (chain : ℕ) (seen reported : List Entry) (stamp : ℕ) (event : BookEvent) (pass : ℕ) (step : Snapshot Step) (next : Mastered) → MayOrder chain seen reported (master_record stamp event pass step) next → MayAdd author_of IsHistory seen reported (AtMaster chain stamp event pass step)
-master_may chain seen reported stamp event pass step next m log h kept heard own =
+pub master_may : (chain : ℕ) (seen reported : List Entry) (stamp : ℕ) (event : BookEvent) (pass : ℕ) (step : Snapshot Step) (next : Mastered) → MayOrder chain seen reported (master_record stamp event pass step) next → MayAdd author_of permit_of IsHistory seen reported (AtMaster chain stamp event pass step)
+master_may chain seen reported stamp event pass step next m log h kept heard own free =
     let e : Entry = AtMaster chain stamp event pass step in
     record {
       chains = λ c. elim (same_or_not chain c) [
@@ -131,6 +133,7 @@ master_may chain seen reported stamp event pass step next m log h kept heard own
         | inr d ↦ quiet c log e refl (rw (ne_eqb chain c d) refl) (h.chains c)
       ];
       calls = calls_more [] log e h.calls tt;
+      once = once_more log e h.once free;
     }
 
 pub master_seen : (c : ℕ) (seen reported new : List Entry) (stamp : ℕ) (event : BookEvent) (pass : ℕ) (step : Snapshot Step) (next : Mastered) → MayOrder c seen reported (master_record stamp event pass step) next → IsAdded author_of seen reported (AtMaster c stamp event pass step) new → IsMasterAt c new next stamp
@@ -161,8 +164,8 @@ opened_here c log members m h =
     let ls : lines_in c (log ++ e ∷ []) ≡ [] = lines_more c log e ∙ (append-nil (lines_in c log) ∙ none_holds c log none h) in
     rw (ms, ls) (no_lines c members.value m.membership, tt)
 
-pub opened_may : (chain : ℕ) (seen reported : List Entry) (members : Snapshot (List ℕ)) → MayOpen chain seen members.value → MayAdd author_of IsHistory seen reported (Opened chain members)
-opened_may chain seen reported members m log h kept heard own =
+pub opened_may : (chain : ℕ) (seen reported : List Entry) (members : Snapshot (List ℕ)) → MayOpen chain seen members.value → MayAdd author_of permit_of IsHistory seen reported (Opened chain members)
+opened_may chain seen reported members m log h kept heard own free =
     let e : Entry = Opened chain members in
     let now : MayOpen chain log members.value = record { first = sym own ∙ m.first; membership = m.membership } in
     record {
@@ -171,16 +174,27 @@ opened_may chain seen reported members m log h kept heard own =
         | inr d ↦ quiet c log e (rw (ne_eqb chain c d) refl) refl (h.chains c)
       ];
       calls = calls_more [] log e h.calls tt;
+      once = once_more log e h.once free;
     }
 
 -- ---- calls
 
-pub called_may : (seen reported : List Entry) (call : CallId) (name : NodeName) (ask : Snapshot Ask) → MayMake seen call → MayAdd author_of IsHistory seen reported (Called call name ask)
-called_may seen reported call name ask m log h kept heard own =
+pub called_may : (seen reported : List Entry) (call : CallId) (name : NodeName) (ask : Snapshot Ask) → MayMake seen call → MayAdd author_of permit_of IsHistory seen reported (Called call name ask)
+called_may seen reported call name ask m log h kept heard own free =
     let e : Entry = Called call name ask in
     record {
       chains = λ c. quiet c log e refl refl (h.chains c);
       calls = calls_more [] log e h.calls (below_later call seen log own m);
+      once = once_more log e h.once free;
+    }
+
+pub withdrawn_may : (seen reported : List Entry) (call : CallId) → MayAdd author_of permit_of IsHistory seen reported (Withdrawn call)
+withdrawn_may seen reported call log h kept heard own free =
+    let e : Entry = Withdrawn call in
+    record {
+      chains = λ c. quiet c log e refl refl (h.chains c);
+      calls = calls_more [] log e h.calls tt;
+      once = once_more log e h.once free;
     }
 
 -- ---- each chain is a run

@@ -1,14 +1,14 @@
 -- Where an accepted call stands: after the client made it, and so after all that the client had seen before it.
-use Rattle.std.proofs.Common.{◌≡◌, ◌<◌, ℕ, List, [], ◌∷◌, ◌++◌, Option, Some, refl, sym, ap, subst, ◌∙◌, inl, inr, arith, append-nil}
+use Rattle.std.proofs.Common.{◌≡◌, ◌<◌, ℕ, List, [], ◌∷◌, ◌++◌, Option, Some, refl, sym, ap, subst, ◌∙◌, inl, inr, arith, append-nil, append_assoc}
 use Rattle.std.specs.List.{AllByRecursion}
-use Rattle.std.specs.Prelude.{Contains}
+use Rattle.std.specs.Prelude.{Contains, ◌⊎◌}
 use Rattle.std.specs.declared.snapshot.Snapshot.{Snapshot}
 use mathlib.Core.List.{IsPrefix}
 use Rattle.craq_names.specs.declared.name.NodeName.{NodeName}
 use Rattle.craq_model.specs.declared.ask.Ask.{Ask}
 use Rattle.craq_model.specs.declared.ask.Event.{Event}
 use Rattle.craq_model.specs.declared.step.Step.{Step}
-use Rattle.craq_causality.proofs.Orders.{all_in, from_contains, in_left, to_contains}
+use Rattle.craq_causality.proofs.Orders.{IsIn, all_in, from_contains, in_either, in_left, in_right, to_contains}
 use Rattle.craq_ghost_history.specs.Histories.{IsAdded}
 use Rattle.craq_ghost_history.proofs.Prefixes.{comparable}
 use Rattle.craq_store_history.specs.declared.entry.CallId.{CallId}
@@ -63,15 +63,53 @@ again : (xs : List Entry) (x : Entry) (ys : List Entry) → (xs ++ x ∷ []) ++ 
 again [] x ys = refl
 again (z ∷ zs) x ys = ap (λ l. z ∷ l) (again zs x ys)
 
+-- ---- the request of a call
+
+record Split (xs : List Entry) (x : Entry) : Type 0 where
+  pub before : List Entry
+  pub rest : List Entry
+  pub is : xs ≡ before ++ x ∷ rest
+
+split_in : (xs : List Entry) (x : Entry) → IsIn xs x → Split xs x
+split_in [] x i = absurd i
+split_in (y ∷ ys) x (inl e) = record { before = []; rest = ys; is = ap (λ z. z ∷ ys) e }
+split_in (y ∷ ys) x (inr i) = let s = split_in ys x i in record { before = y ∷ s.before; rest = s.rest; is = ap (λ zs. y ∷ zs) s.is }
+
+in_here : (before : List Entry) (x : Entry) (rest : List Entry) → Contains (before ++ x ∷ rest) x
+in_here before x rest = to_contains (before ++ x ∷ rest) x (in_right before (x ∷ rest) x (inl refl))
+
+placed : (log before rest : List Entry) (call : CallId) (name other : NodeName) (ask a : Snapshot Ask) → IsHistory log → log ≡ before ++ Called call name ask ∷ rest
+    → IsIn before (Called call other a) ⊎ IsIn (Called call name ask ∷ rest) (Called call other a) → Called call name ask ≡ Called call other a
+placed log before rest call name other ask a h is (inl l) = absurd (once log before rest call name other ask a h is (to_contains before (Called call other a) l))
+placed log before rest call name other ask a h is (inr (inl e)) = e
+placed log before rest call name other ask a h is (inr (inr r)) =
+    let first : Entry = Called call name ask in
+    let second : Entry = Called call other a in
+    let s = split_in rest second r in
+    let on : log ≡ (before ++ first ∷ s.before) ++ second ∷ s.rest = is ∙ (ap (λ (l : List Entry). before ++ first ∷ l) s.is ∙ sym (append_assoc before (first ∷ s.before) (second ∷ s.rest))) in
+    absurd (once log (before ++ first ∷ s.before) s.rest call other name a ask h on (in_here before first s.before))
+
+-- two entries of one call are one
+pub called_once : (log : List Entry) (call : CallId) (name other : NodeName) (ask a : Snapshot Ask) → IsHistory log → Contains log (Called call name ask) → Contains log (Called call other a) → Called call name ask ≡ Called call other a
+called_once log call name other ask a h one two =
+    let s = split_in log (Called call name ask) (from_contains log (Called call name ask) one) in
+    placed log s.before s.rest call name other ask a h s.is (in_either s.before (Called call name ask ∷ s.rest) (Called call other a) (subst (λ (l : List Entry). IsIn l (Called call other a)) s.is (from_contains log (Called call other a) two)))
+
+-- a prefix that has a call begins with the history in which it was made
+pub made_within : (log seen reported mid before rest : List Entry) (call : CallId) (name other : NodeName) (ask a : Snapshot Ask) → IsHistory log → IsAdded author_of seen reported (Called call name ask) mid → IsPrefix mid log
+    → log ≡ before ++ rest → Contains before (Called call other a) → IsPrefix mid before
+made_within log seen reported mid before rest call name other ask a h added p is there =
+    let c : Entry = Called call name ask in
+    let on : log ≡ added.before ++ c ∷ p.0 = sym p.1 ∙ (ap (λ l. l ++ p.0) added.now ∙ again added.before c p.0) in
+    elim (comparable mid before log p (rest, sym is)) [
+      | inl shorter_mid ↦ shorter_mid
+      | inr q ↦ by_rest log mid added.before before rest p.0 call name ask q.0 h added.now on other a there q.1
+    ]
+
 -- a step that accepts a call stands after the call, in every history that goes on from it
 pub accepted_later : (log seen reported mid before rest : List Entry) (call : CallId) (name at : NodeName) (ask : Snapshot Ask) (stamp : ℕ) (event : Snapshot Event) (pass : ℕ) (step : Snapshot Step) → IsHistory log → IsAdded author_of seen reported (Called call name ask) mid → IsPrefix mid log
     → log ≡ before ++ AtNode at stamp event pass step (Some call) ∷ rest → IsPrefix mid before
 accepted_later log seen reported mid before rest call name at ask stamp event pass step h a p is =
     let e : Entry = AtNode at stamp event pass step (Some call) in
-    let c : Entry = Called call name ask in
     let w : WasCalled before call at _ = (may_call log before rest e h is).2 in
-    let on : log ≡ a.before ++ c ∷ p.0 = sym p.1 ∙ (ap (λ l. l ++ p.0) a.now ∙ again a.before c p.0) in
-    elim (comparable mid before log p (e ∷ rest, sym is)) [
-      | inl shorter_mid ↦ shorter_mid
-      | inr q ↦ by_rest log mid a.before before rest p.0 call name ask q.0 h a.now on at w.0 w.1 q.1
-    ]
+    made_within log seen reported mid before (e ∷ rest) call name at ask w.0 h a p is w.1

@@ -10,7 +10,7 @@ use Rattle.craq_ghost_history.specs.declared.author.Author.TheVariants.{Node, Cl
 use Rattle.craq_ghost_history.specs.Authors.{of, same}
 use Rattle.craq_store_history.specs.declared.entry.CallId.{CallId}
 use Rattle.craq_store_history.specs.declared.entry.Entry.{Entry}
-use Rattle.craq_store_history.specs.declared.entry.Entry.TheVariants.{Opened, Called, AtNode, AtMaster}
+use Rattle.craq_store_history.specs.declared.entry.Entry.TheVariants.{Opened, Called, AtNode, AtMaster, Withdrawn}
 use Rattle.craq_store_history.specs.Entries.{author_of}
 use Rattle.craq_store_history.specs.Chains.{Accepts, AreCalls, IsBelow, MayCall}
 
@@ -52,6 +52,7 @@ all_from_own call (Called c name ask ∷ xs) a =
     (λ e. first_of call b (Called c name ask) rest (eq-eqb c.client call.client e) a e, all_from_own call xs (rest_of call b (Called c name ask) rest a))
 all_from_own call (AtNode name stamp event pass step c ∷ xs) a = (tt, all_from_own call xs a)
 all_from_own call (AtMaster chain stamp event pass step ∷ xs) a = (tt, all_from_own call xs a)
+all_from_own call (Withdrawn c ∷ xs) a = (tt, all_from_own call xs (rest_of call (c.client == call.client) (Withdrawn c) (of author_of (Client call.client) xs) a))
 
 -- a client that knows all its calls knows that a number is new
 pub below_later : (call : CallId) (xs ys : List Entry) → of author_of (Client call.client) xs ≡ of author_of (Client call.client) ys → AllByRecursion (IsBelow call) xs → AllByRecursion (IsBelow call) ys

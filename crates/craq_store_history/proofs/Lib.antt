@@ -1,4 +1,5 @@
 pub mod Lines
 pub mod Calls
+pub mod Permits
 pub mod Adding
 pub mod Between

@@ -7,7 +7,7 @@ use Rattle.craq_causality.specs.Authors.{lines_of}
 use Rattle.craq_ghost_history.specs.declared.author.Author.TheVariants.{Node, Client}
 use Rattle.craq_ghost_history.specs.Authors.{of, same}
 use Rattle.craq_store_history.specs.declared.entry.Entry.{Entry}
-use Rattle.craq_store_history.specs.declared.entry.Entry.TheVariants.{Opened, Called, AtNode, AtMaster}
+use Rattle.craq_store_history.specs.declared.entry.Entry.TheVariants.{Opened, Called, AtNode, AtMaster, Withdrawn}
 use Rattle.craq_store_history.specs.Entries.{author_of, first_some, line_in, lines_in, master_record, members_in, node_record, opened_by}
 
 -- ---- the lines
@@ -72,6 +72,7 @@ line_own c id (Opened chain members) = empty_both (same (Node chain 0) (Node c i
 line_own c id (Called call name ask) = refl
 line_own c id (AtNode name stamp event pass step call) = own_once (name.chain == c) (name.node == id) id (node_line name.node (node_record stamp event pass step)) refl
 line_own c id (AtMaster chain stamp event pass step) = own_once (chain == c) (0 == id) id (book_line (master_record stamp event pass step)) refl
+line_own c id (Withdrawn call) = refl
 
 join : (b : Bool) (c : ℕ) (e : Entry) (es : List Entry) → (if b then line_in c e else []) ++ lines_in c es ≡ lines_in c (if b then e ∷ es else es)
 unfolding lines_in
@@ -113,3 +114,4 @@ not_opened c (AtNode name stamp event pass step call ∷ es) h =
     not_opened c es (tail_nil (same (Node name.chain name.node) (Node c 0)) (AtNode name stamp event pass step call) (of author_of (Node c 0) es) h)
 not_opened c (AtMaster chain stamp event pass step ∷ es) h =
     not_opened c es (tail_nil (same (Node chain 0) (Node c 0)) (AtMaster chain stamp event pass step) (of author_of (Node c 0) es) h)
+not_opened c (Withdrawn call ∷ es) h = not_opened c es h

@@ -1,5 +1,6 @@
--- The rule of a store's history: the lines of each chain are in causal order, and each call is made once, before it is accepted.
-use Rattle.std.specs.Prelude.{◌≡◌, ◌<◌, ℕ, ⊤, List, [], ◌∷◌, ◌++◌, Contains, Option, Some, None}
+-- The rule of a store's history: the lines of each chain are in causal order, and each call is made once, before it is accepted; it is
+-- accepted once, or taken back.
+use Rattle.std.specs.Prelude.{◌≡◌, ◌<◌, ◌≤◌, ℕ, ⊤, List, [], ◌∷◌, ◌++◌, length, Contains, Option, Some, None}
 use Rattle.std.specs.List.{AllByRecursion}
 use Rattle.std.specs.declared.snapshot.Snapshot.{Snapshot}
 use Rattle.craq_names.specs.declared.name.NodeName.{NodeName}
@@ -8,10 +9,12 @@ use Rattle.craq_model.specs.declared.ask.Event.{Event}
 use Rattle.craq_model.specs.declared.ask.Event.TheVariants as events
 use Rattle.craq_seat.specs.Merge.{MergedStep}
 use Rattle.craq_causality.specs.Causal.{AreCausal, AreTyped}
+use Rattle.craq_ghost_history.specs.declared.author.Permit.{Permit}
+use Rattle.craq_ghost_history.specs.Authors.{uses}
 use Rattle.craq_store_history.specs.declared.entry.CallId.{CallId}
 use Rattle.craq_store_history.specs.declared.entry.Entry.{Entry}
-use Rattle.craq_store_history.specs.declared.entry.Entry.TheVariants.{Opened, Called, AtNode, AtMaster}
-use Rattle.craq_store_history.specs.Entries.{lines_in, members_in}
+use Rattle.craq_store_history.specs.declared.entry.Entry.TheVariants.{Opened, Called, AtNode, AtMaster, Withdrawn}
+use Rattle.craq_store_history.specs.Entries.{lines_in, members_in, permit_of}
 
 -- the lines of an opened chain are in causal order, with each request of its type; a chain that is
 -- not opened has none
@@ -25,6 +28,7 @@ IsBelow call (Opened chain members) = ⊤
 IsBelow call (Called c name ask) = c.client ≡ call.client → c.number < call.number
 IsBelow call (AtNode name stamp event pass step c) = ⊤
 IsBelow call (AtMaster chain stamp event pass step) = ⊤
+IsBelow call (Withdrawn c) = ⊤
 
 -- the call was made, at this node, with this ask
 abbrev pub WasCalled : List Entry → CallId → NodeName → Ask → Type 0
@@ -41,11 +45,14 @@ MayCall before (Opened chain members) = ⊤
 MayCall before (Called call name ask) = AllByRecursion (IsBelow call) before
 MayCall before (AtNode name stamp event pass step call) = Accepts before name event.value call
 MayCall before (AtMaster chain stamp event pass step) = ⊤
+MayCall before (Withdrawn call) = ⊤
 
 abbrev pub AreCalls : List Entry → List Entry → Type 0
 AreCalls before [] = ⊤
 AreCalls before (e ∷ es) = MayCall before e × AreCalls (before ++ e ∷ []) es
 
+-- `once`: at most one step accepts a call, and none if its client takes it back
 pub record IsHistory (log : List Entry) : Type 0 where
   pub chains : (c : ℕ) → ChainHolds c (members_in c log) (lines_in c log)
   pub calls : AreCalls [] log
+  pub once : (p : Permit) → length (uses permit_of p log) ≤ 1

@@ -1,5 +1,5 @@
--- Entries of a store's history: whose each is, and what it is of a chain.
-use Rattle.std.specs.Prelude.{◌≡◌, ◌<◌, ℕ, ◌==◌, if◌then◌else◌, ⊤, List, [], ◌∷◌, ◌++◌, Option, Some, None}
+-- Entries of a store's history: whose each is, the permit that it uses up, and what it is of a chain.
+use Rattle.std.specs.Prelude.{◌≡◌, ◌<◌, ℕ, ◌==◌, if◌then◌else◌, ⊤, List, [], ◌∷◌, ◌++◌, Option, Some, None, option_map}
 use Rattle.std.specs.declared.snapshot.Snapshot.{Snapshot}
 use Rattle.craq_model.specs.declared.ask.Event.{Event}
 use Rattle.craq_model.specs.declared.step.Step.{Step}
@@ -8,14 +8,29 @@ use Rattle.craq_seat.specs.declared.journal.Record.{Record}
 use Rattle.craq_seat.specs.Merge.{MergedStep, book_line, node_line}
 use Rattle.craq_ghost_history.specs.declared.author.Author.{Author}
 use Rattle.craq_ghost_history.specs.declared.author.Author.TheVariants.{Node, Client}
+use Rattle.craq_ghost_history.specs.declared.author.Permit.{Permit}
+use Rattle.craq_store_history.specs.declared.entry.CallId.{CallId}
 use Rattle.craq_store_history.specs.declared.entry.Entry.{Entry}
-use Rattle.craq_store_history.specs.declared.entry.Entry.TheVariants.{Opened, Called, AtNode, AtMaster}
+use Rattle.craq_store_history.specs.declared.entry.Entry.TheVariants.{Opened, Called, AtNode, AtMaster, Withdrawn}
 
 abbrev pub author_of : Entry → Author
 author_of (Opened chain members) = Node chain 0
 author_of (Called call name ask) = Client call.client
 author_of (AtNode name stamp event pass step call) = Node name.chain name.node
 author_of (AtMaster chain stamp event pass step) = Node chain 0
+author_of (Withdrawn call) = Client call.client
+
+-- the permit of a call
+abbrev pub permit_for : CallId → Permit
+permit_for call = record { client = call.client; number = call.number }
+
+-- the permit that an entry uses up: of the call that a step accepts, or that a client takes back
+abbrev pub permit_of : Entry → Option Permit
+permit_of (Opened chain members) = None
+permit_of (Called call name ask) = None
+permit_of (AtNode name stamp event pass step call) = option_map permit_for call
+permit_of (AtMaster chain stamp event pass step) = None
+permit_of (Withdrawn call) = Some (permit_for call)
 
 -- a step as its author's journal would keep it
 abbrev pub node_record : ℕ → Snapshot Event → ℕ → Snapshot Step → Record Event
@@ -30,6 +45,7 @@ line_in c (Opened chain members) = []
 line_in c (Called call name ask) = []
 line_in c (AtNode name stamp event pass step call) = if name.chain == c then node_line name.node (node_record stamp event pass step) ∷ [] else []
 line_in c (AtMaster chain stamp event pass step) = if chain == c then book_line (master_record stamp event pass step) ∷ [] else []
+line_in c (Withdrawn call) = []
 
 -- the lines of a chain
 unfoldable pub lines_in : ℕ → List Entry → List MergedStep
@@ -42,6 +58,7 @@ opened_by c (Opened chain members) = if chain == c then Some members.value else 
 opened_by c (Called call name ask) = None
 opened_by c (AtNode name stamp event pass step call) = None
 opened_by c (AtMaster chain stamp event pass step) = None
+opened_by c (Withdrawn call) = None
 
 abbrev pub first_some : {A : Type 0} → Option A → Option A → Option A
 first_some (Some x) y = Some x

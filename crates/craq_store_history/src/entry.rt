@@ -43,4 +43,8 @@ pub enum Entry {
         pass: Pass,
         step: Snapshot<Step>,
     },
+    /// A client takes a call back: no step has accepted it, and none will.
+    Withdrawn {
+        call: CallId,
+    },
 }

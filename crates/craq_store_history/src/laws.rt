@@ -1,5 +1,5 @@
 //! Laws: functions without bodies, whose contracts are the theorems.
-ghost use Rattle.std.specs.Prelude.{◌≡◌, ◌++◌, ◌∷◌, ℕ, List, [], Option, Some};
+ghost use Rattle.std.specs.Prelude.{◌≡◌, ◌++◌, ◌∷◌, ℕ, List, [], Contains, Option, Some};
 ghost use mathlib.Core.List.{IsPrefix};
 ghost use Rattle.std.specs.declared.snapshot.Snapshot.{Snapshot};
 ghost use Rattle.craq_names.specs.declared.name.NodeName.{NodeName};
@@ -15,9 +15,9 @@ ghost use Rattle.craq_causality.specs.Causal.{AreFew};
 ghost use Rattle.craq_ghost_history.specs.Histories.{IsAdded, MayAdd};
 ghost use Rattle.craq_store_history.specs.declared.entry.CallId.{CallId};
 ghost use Rattle.craq_store_history.specs.declared.entry.Entry.{Entry};
-ghost use Rattle.craq_store_history.specs.declared.entry.Entry.TheVariants.{Opened, Called, AtNode, AtMaster};
+ghost use Rattle.craq_store_history.specs.declared.entry.Entry.TheVariants.{Opened, Called, AtNode, AtMaster, Withdrawn};
 ghost use Rattle.craq_store_history.specs.Chains.{Accepts, IsHistory};
-ghost use Rattle.craq_store_history.specs.Entries.{author_of, lines_in, master_record, members_in, node_record};
+ghost use Rattle.craq_store_history.specs.Entries.{author_of, lines_in, master_record, members_in, node_record, permit_of};
 ghost use Rattle.craq_store_history.specs.Steps.{IsMasterAt, IsNodeAt, MayMake, MayOpen, MayOrder, MayStep};
 
 /// The lines of each chain that was opened are a run of it, in every history that keeps the rule.
@@ -31,13 +31,14 @@ pub fn each_chain_is_a_run()
 pub fn authors_keep_the_rule()
     ensures empty { IsHistory [] }
     ensures opened { (chain : ℕ) (seen reported : List Entry) (members : Snapshot (List ℕ)) → MayOpen chain seen members.value
-        → MayAdd author_of IsHistory seen reported (Opened chain members) }
+        → MayAdd author_of permit_of IsHistory seen reported (Opened chain members) }
     ensures called { (seen reported : List Entry) (call : CallId) (name : NodeName) (ask : Snapshot Ask) → MayMake seen call
-        → MayAdd author_of IsHistory seen reported (Called call name ask) }
+        → MayAdd author_of permit_of IsHistory seen reported (Called call name ask) }
     ensures node { (name : NodeName) (seen reported : List Entry) (stamp : ℕ) (event : Snapshot Event) (pass : ℕ) (step : Snapshot Step) (call : Option CallId) (next : Plain)
-        → MayStep name seen reported (node_record stamp event pass step) call next → MayAdd author_of IsHistory seen reported (AtNode name stamp event pass step call) }
+        → MayStep name seen reported (node_record stamp event pass step) call next → MayAdd author_of permit_of IsHistory seen reported (AtNode name stamp event pass step call) }
     ensures master { (chain : ℕ) (seen reported : List Entry) (stamp : ℕ) (event : BookEvent) (pass : ℕ) (step : Snapshot Step) (next : Mastered)
-        → MayOrder chain seen reported (master_record stamp event pass step) next → MayAdd author_of IsHistory seen reported (AtMaster chain stamp event pass step) }
+        → MayOrder chain seen reported (master_record stamp event pass step) next → MayAdd author_of permit_of IsHistory seen reported (AtMaster chain stamp event pass step) }
+    ensures withdrawn { (seen reported : List Entry) (call : CallId) → MayAdd author_of permit_of IsHistory seen reported (Withdrawn call) }
 {}
 
 /// After a step was added, the author's own entries replay to the node, or the master, after it.
@@ -56,4 +57,13 @@ pub fn accepted_calls_follow()
     ensures later { (log seen reported mid done rest : List Entry) (call : CallId) (name at : NodeName) (ask : Snapshot Ask) (stamp : ℕ) (event : Snapshot Event) (pass : ℕ) (step : Snapshot Step)
         → IsHistory log → IsAdded author_of seen reported (Called call name ask) mid → IsPrefix mid log
         → log ≡ done ++ AtNode at stamp event pass step (Some call) ∷ rest → IsPrefix mid done }
+{}
+
+/// At most one step accepts a call. If its client took the call back, then no step accepts it, in
+/// any history that keeps the rule.
+pub fn calls_are_accepted_once()
+    ensures once { (log : List Entry) (name at : NodeName) (stamp its_stamp : ℕ) (event its_event : Snapshot Event) (pass its_pass : ℕ) (step its_step : Snapshot Step) (call : CallId) → IsHistory log
+        → Contains log (AtNode name stamp event pass step (Some call)) → Contains log (AtNode at its_stamp its_event its_pass its_step (Some call)) → (name ≡ at) × (stamp ≡ its_stamp) }
+    ensures withdrawn { (log : List Entry) (name : NodeName) (stamp : ℕ) (event : Snapshot Event) (pass : ℕ) (step : Snapshot Step) (call : CallId) → IsHistory log
+        → Contains log (Withdrawn call) → ¬ (Contains log (AtNode name stamp event pass step (Some call))) }
 {}

@@ -8,6 +8,7 @@ mod rule;
 
 pub use entry::{CallId, Entry};
 pub use laws::{
-    accepted_calls_follow, authors_are_replayed, authors_keep_the_rule, each_chain_is_a_run,
+    accepted_calls_follow, authors_are_replayed, authors_keep_the_rule, calls_are_accepted_once,
+    each_chain_is_a_run,
 };
 pub use rule::StoreRule;

@@ -1,4 +1,4 @@
-use Rattle.craq_store_history.proofs.Adding.{called_may, empty, master_may, node_may, opened_may}
+use Rattle.craq_store_history.proofs.Adding.{called_may, empty, master_may, node_may, opened_may, withdrawn_may}
 use Rattle.craq_store_history.proofs.laws.authors_keep_the_rule.Goals as goal
 
 pub returns-clause-empty : goal.returns-clause-empty
@@ -15,3 +15,6 @@ returns-clause-node c = node_may
 
 pub returns-clause-master : goal.returns-clause-master
 returns-clause-master c = master_may
+
+pub returns-clause-withdrawn : goal.returns-clause-withdrawn
+returns-clause-withdrawn c = withdrawn_may

@@ -1,11 +1,9 @@
 -- A node before its first step, and a master's steps, as a history has them.
-use Rattle.std.proofs.Common.{◌≡◌, ◌<◌, ◌∙◌, ℕ, ◌==◌, Bool, true, false, true≢false, List, [], ◌∷◌, ◌++◌, Option, Some, None, Result, Ok, Err, IfSome, refl, sym, ap, subst, eq-eqb, append-nil, inl}
+use Rattle.std.proofs.Common.{◌≡◌, ◌<◌, ◌∙◌, ℕ, Bool, true, false, true≢false, List, [], ◌∷◌, ◌++◌, Option, Some, None, Result, Ok, Err, IfSome, refl, sym, ap, subst, eq-eqb, append-nil, inl}
 use Rattle.std.specs.Prelude.{if◌then◌else◌, Contains}
 use Rattle.std.specs.declared.snapshot.Snapshot.{Snapshot}
 use mathlib.Core.List.{IsPrefix}
-use Rattle.craq_names.specs.declared.name.NodeName.{NodeName}
 use Rattle.craq_names.specs.declared.refusal.Refusal.{Refusal}
-use Rattle.craq_model.specs.declared.ask.Event.{Event}
 use Rattle.craq_model.specs.declared.step.Step.{Step}
 use Rattle.craq_model.specs.Members.{IsMembership, is_member}
 use Rattle.craq_model.specs.Plain.{Plain, opening_joined, opening_member}
@@ -15,27 +13,28 @@ use Rattle.craq_seat.specs.declared.journal.Opening.{Opening}
 use Rattle.craq_seat.specs.declared.journal.Receipt.{Receipt}
 use Rattle.craq_seat.specs.Books.{IsBook, book_step, members_of}
 use Rattle.craq_seat.specs.Calls.{Desked}
-use Rattle.craq_seat.specs.Cells.{Celled, cell_step, recorded, stamped, with_record}
+use Rattle.craq_seat.specs.Cells.{Celled, cell_step, receipt_of, recorded, stamped, with_record}
 use Rattle.craq_seat.specs.Merge.{MergedStep, book_line}
 use Rattle.craq_seat.specs.Stamps.{book_stamp, next_stamp}
 use Rattle.craq_seat.specs.Taken.{TakesTransition}
 use Rattle.craq_seat.proofs.Taking.{above}
-use Rattle.craq_causality.specs.Authors.{IsNodeAfter, first_of, lines_of}
-use Rattle.craq_causality.specs.Causal.{HasJoined, HasStopped, IsOfStopped}
+use Rattle.craq_causality.specs.Authors.{first_of, lines_of}
+use Rattle.craq_causality.specs.Causal.{IsOfStopped}
 use Rattle.craq_causality.proofs.Growing.{joined_later}
-use Rattle.craq_causality.proofs.Orders.{in_right, to_contains}
+use Rattle.craq_causality.proofs.Orders.{IsIn, in_left, in_right, to_contains}
 use Rattle.craq_ghost_history.specs.declared.author.Author.TheVariants.{Node}
 use Rattle.craq_ghost_history.specs.Authors.{of}
 use Rattle.craq_ghost_history.specs.Histories.{IsAdded, MayAdd, Written}
 use Rattle.craq_store_history.specs.declared.entry.Entry.{Entry}
 use Rattle.craq_store_history.specs.declared.entry.Entry.TheVariants.{AtMaster, Opened}
 use Rattle.craq_store_history.specs.Chains.{IsHistory}
-use Rattle.craq_store_history.specs.Entries.{author_of, line_in, lines_in, master_record, members_in, opened_by}
-use Rattle.craq_store_history.specs.Steps.{IsMasterAt, IsNodeAt, MayOrder}
+use Rattle.craq_store_history.specs.Entries.{author_of, line_in, lines_in, master_record, members_in, opened_by, permit_of}
+use Rattle.craq_store_history.specs.Steps.{IsMasterAt, MayOrder}
 use Rattle.craq_store_history.proofs.Adding.{master_may, master_seen, opened_may}
 use Rattle.craq_store_history.proofs.Lines.{lines_more, lines_prefix, members_more, members_prefix, not_opened, own_same}
-use Rattle.craq_store_parts.proofs.Recording.{same_ok}
-use Rattle.craq_store_parts.specs.Recorded.{CanBegin, HasStep, IsRecorded, IsRecordedBook, IsUnmoved}
+use Rattle.craq_store_parts.proofs.Recording.{same_ok, stands_last}
+use Rattle.craq_store_parts.specs.Recorded.{CanBegin, HasStep, IsRecorded, IsRecordedBook, IsUnmoved, StandsAfter}
+use Rattle.craq_store_parts.specs.Witnessed.{IsWitnessedOrder}
 
 -- ---- a node before its first step
 
@@ -108,14 +107,21 @@ pub may_order : (old new : Celled Mastered BookEvent) (w : Written Entry) (repor
 may_order old new w reported event pass step r t says stopped =
     record { master = old.inside; stamp = old.stamp; at = r.at; step = rw says t.takes; later = t.later; stopped = stopped }
 
-pub line_added : (seen reported new : List Entry) (c stamp : ℕ) (event : BookEvent) (pass : ℕ) (step : Snapshot Step)
-    → IsAdded author_of seen reported (AtMaster c stamp event pass step) new → Contains (lines_in c new) (book_line (master_record stamp event pass step))
-line_added seen reported new c stamp event pass step a =
+-- the line of a master's entry that is the last of a prefix
+pub line_standing : (before log : List Entry) (c stamp : ℕ) (event : BookEvent) (pass : ℕ) (step : Snapshot Step) → IsPrefix (before ++ AtMaster c stamp event pass step ∷ []) log → Contains (lines_in c log) (book_line (master_record stamp event pass step))
+line_standing before log c stamp event pass step p =
     let e : Entry = AtMaster c stamp event pass step in
     let l : MergedStep = book_line (master_record stamp event pass step) in
     let line : line_in c e ≡ l ∷ [] = rw (eq-eqb c c refl) refl in
-    let ls : lines_in c new ≡ lines_in c a.before ++ l ∷ [] = ap (lines_in c) a.now ∙ (lines_more c a.before e ∙ ap (λ z. lines_in c a.before ++ z) line) in
-    subst (λ (z : List MergedStep). Contains z l) (sym ls) (to_contains (lines_in c a.before ++ l ∷ []) l (in_right (lines_in c a.before) (l ∷ []) l (inl refl)))
+    let ls : lines_in c (before ++ e ∷ []) ≡ lines_in c before ++ l ∷ [] = lines_more c before e ∙ ap (λ z. lines_in c before ++ z) line in
+    let more = lines_prefix c (before ++ e ∷ []) log p in
+    let here : IsIn (lines_in c (before ++ e ∷ [])) l = subst (λ (z : List MergedStep). IsIn z l) (sym ls) (in_right (lines_in c before) (l ∷ []) l (inl refl)) in
+    subst (λ (z : List MergedStep). Contains z l) more.1 (to_contains (lines_in c (before ++ e ∷ []) ++ more.0) l (in_left (lines_in c (before ++ e ∷ [])) more.0 l here))
+
+line_added : (seen reported new : List Entry) (c stamp : ℕ) (event : BookEvent) (pass : ℕ) (step : Snapshot Step)
+    → IsAdded author_of seen reported (AtMaster c stamp event pass step) new → Contains (lines_in c new) (book_line (master_record stamp event pass step))
+line_added seen reported new c stamp event pass step a =
+    line_standing a.before new c stamp event pass step ([], append-nil (a.before ++ AtMaster c stamp event pass step ∷ []) ∙ sym a.now)
 
 some_last : (o : Option Step) (s : Step) (P : Step → Type 0) → o ≡ Some s → P s → IfSome o P
 some_last o s P is h = subst (λ (x : Option Step). IfSome x P) (sym is) h
@@ -145,7 +151,7 @@ module _ (old new : Celled Mastered BookEvent) (w : Written Entry) (reported : L
   pub book_own : Node chain 0 ≡ w.author
   book_own = rw its_chain (sym r.author)
 
-  pub book_may : MayAdd author_of IsHistory w.seen reported (AtMaster chain stamp event pass step)
+  pub book_may : MayAdd author_of permit_of IsHistory w.seen reported (AtMaster chain stamp event pass step)
   book_may = rw (its_chain, stamped_is) (master_may old.opening.name.chain w.seen reported new.stamp event pass step new.inside (may_order old new w reported event pass step r t says stopped))
 
   pub book_recorded : (v : Written Entry) → v.author ≡ w.author → IsAdded author_of w.seen reported (AtMaster chain stamp event pass step) v.seen → IsRecordedBook new v
@@ -153,6 +159,20 @@ module _ (old new : Celled Mastered BookEvent) (w : Written Entry) (reported : L
       let by_chain = subst (λ (c : ℕ). IsAdded author_of w.seen reported (AtMaster c stamp event pass step) v.seen) its_chain a in
       let by_stamp = subst (λ (k : ℕ). IsAdded author_of w.seen reported (AtMaster old.opening.name.chain k event pass step) v.seen) stamped_is by_chain in
       now_ordered old new w v reported event pass step r t says stopped author by_stamp
+
+  pub book_witnessed : (seen log : List Entry) (receipt : Receipt) → receipt ≡ receipt_of new → IsHistory seen → IsAdded author_of w.seen reported (AtMaster chain stamp event pass step) seen → log ≡ seen
+      → IsWitnessedOrder reported old.opening.name.chain event receipt log
+  book_witnessed seen log receipt is h a same =
+      let here : StandsAfter reported log (AtMaster chain stamp event pass step) =
+      subst (λ (l : List Entry). StandsAfter reported l (AtMaster chain stamp event pass step)) (sym same) (stands_last w.seen reported seen (AtMaster chain stamp event pass step) a) in
+      let by_chain = subst (λ (c : ℕ). StandsAfter reported log (AtMaster c stamp event pass step)) its_chain here in
+      record {
+        pass = pass;
+        step = step;
+        taken = subst (λ (k : ℕ). StandsAfter reported log (AtMaster old.opening.name.chain k event pass step)) (stamped_is ∙ sym (ap (λ (x : Receipt). x.stamp) is)) by_chain;
+        master = ap (λ (x : Receipt). x.node) is ∙ (ap (λ (o : Opening). o.name.node) t.opening ∙ r.zero);
+        history = subst IsHistory (sym same) h;
+      }
 
 -- ---- a chain that is opened
 
@@ -181,7 +201,7 @@ book_opened b w v chain members (c, ms, journal, is) author none same are kept a
       last = none_last b.last (λ (s : Step). HasStep (lines_in b.opening.name.chain v.seen) b.opening.name.node b.stamp s) (ap (λ (x : Celled Mastered BookEvent). x.last) is);
     }
 
-pub book_may_open : (b : Celled Mastered BookEvent) (w : Written Entry) (chain : ℕ) (members : Snapshot (List ℕ)) → IsUnmoved b → IsBook b → w.seen ≡ [] → members.value ≡ b.inside.members → MayAdd author_of IsHistory w.seen [] (Opened chain members)
+pub book_may_open : (b : Celled Mastered BookEvent) (w : Written Entry) (chain : ℕ) (members : Snapshot (List ℕ)) → IsUnmoved b → IsBook b → w.seen ≡ [] → members.value ≡ b.inside.members → MayAdd author_of permit_of IsHistory w.seen [] (Opened chain members)
 book_may_open b w chain members (c, ms, journal, is) book none are =
     let list : members.value ≡ ms = are ∙ ap (λ (x : Celled Mastered BookEvent). x.inside.members) is in
     let first : members_of b.opening.config ≡ ms = ap (λ (x : Celled Mastered BookEvent). members_of x.opening.config) is in

@@ -1,35 +1,32 @@
 -- A node that a master lets join, in a history.
-use Rattle.std.proofs.Common.{◌≡◌, ◌≢◌, ◌∙◌, ℕ, false, true, List, [], ◌∷◌, ◌++◌, Option, Some, None, Result, Ok, Err, IfOk, refl, sym, ap, subst, inl, inr, true≢false}
-use Rattle.std.specs.Prelude.{if◌then◌else◌, Bool, Contains}
-use Rattle.std.specs.declared.snapshot.Snapshot.{Snapshot}
+use Rattle.std.proofs.Common.{◌≡◌, ◌∙◌, ℕ, false, List, [], Option, Some, None, refl, sym, ap, subst, inr}
+use Rattle.std.specs.Prelude.{Contains}
 use Rattle.craq_names.specs.declared.name.NodeName.{NodeName}
-use Rattle.craq_names.specs.declared.refusal.Refusal.{Refusal}
 use Rattle.craq_model.specs.declared.ask.Event.{Event}
-use Rattle.craq_model.specs.declared.step.Step.{Step}
 use Rattle.craq_model.specs.Members.{is_member}
-use Rattle.craq_model.specs.Plain.{Plain, opening_joined, opening_member}
-use Rattle.craq_epochs.specs.Mastered.{Mastered, opened_master}
+use Rattle.craq_model.specs.Plain.{Plain, opening_joined}
+use Rattle.craq_epochs.specs.Mastered.{opened_master}
 use Rattle.craq_seat.specs.declared.journal.BookEvent.{BookEvent}
 use Rattle.craq_seat.specs.declared.journal.BookEvent.TheVariants as books
+use Rattle.craq_seat.specs.declared.journal.Receipt.{Receipt}
 use Rattle.craq_seat.specs.declared.journal.Record.{Record}
 use Rattle.craq_seat.specs.Cells.{Celled}
 use Rattle.craq_seat.specs.Merge.{AtMaster as HappensAtMaster, AtNode as HappensAtNode, Happening, MergedStep, book_line}
 use Rattle.craq_causality.specs.Authors.{IsMasterAfter, first_of, lines_of}
-use Rattle.craq_causality.specs.Causal.{AreCausal, AreTyped, HasJoined}
+use Rattle.craq_causality.specs.Causal.{AreCausal, HasJoined}
 use Rattle.craq_causality.proofs.Orders.{IsIn, from_contains, of_map, to_at}
 use Rattle.craq_merge.proofs.Used.{joins_new}
-use Rattle.craq_ghost_history.specs.Histories.{IsAdded}
 use Rattle.craq_store_history.specs.declared.entry.Entry.{Entry}
-use Rattle.craq_store_history.specs.declared.entry.Entry.TheVariants.{AtMaster}
 use Rattle.craq_store_history.specs.Chains.{ChainHolds, IsHistory}
-use Rattle.craq_store_history.specs.Entries.{author_of, lines_in, master_record, members_in}
+use Rattle.craq_store_history.specs.Entries.{lines_in, master_record, members_in}
 use Rattle.craq_store_parts.specs.Recorded.{CanBegin, HasLetJoin, HasOrdered, IsUnjoined}
-use Rattle.craq_store_parts.proofs.Beginning.{line_added}
+use Rattle.craq_store_parts.specs.Witnessed.{IsWitnessedOrder}
+use Rattle.craq_store_parts.proofs.Beginning.{line_standing}
 
--- a master's step, once it is added
-pub has_ordered : (seen reported new : List Entry) (c stamp : ℕ) (event : BookEvent) (pass : ℕ) (step : Snapshot Step)
-    → IsAdded author_of seen reported (AtMaster c stamp event pass step) new → HasOrdered new c event
-has_ordered seen reported new c stamp event pass step a = (master_record stamp event pass step, line_added seen reported new c stamp event pass step a, refl)
+-- a master's step that stands in a history
+pub has_ordered : (old log : List Entry) (c : ℕ) (event : BookEvent) (receipt : Receipt) → IsWitnessedOrder old c event receipt log → HasOrdered log c event
+has_ordered old log c event receipt w =
+    (master_record receipt.stamp event w.pass w.step, line_standing w.taken.0 log c receipt.stamp event w.pass w.step w.taken.2, refl)
 
 -- the event of a master that happens, or another where a node's does
 told : BookEvent → Happening → BookEvent

@@ -4,3 +4,4 @@ pub mod Sending
 pub mod Beginning
 pub mod Joining
 pub mod Sessions
+pub mod Refusing

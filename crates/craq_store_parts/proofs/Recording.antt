@@ -1,5 +1,5 @@
 -- A desk's step as an entry of the history.
-use Rattle.std.proofs.Common.{◌≡◌, ◌<◌, ℕ, true, false, true≢false, List, [], ◌∷◌, ◌++◌, Option, Some, None, Result, Ok, Err, IfOk, IfSome, refl, sym, ap, subst, ◌∙◌, inl, inr, arith, eq-eqb}
+use Rattle.std.proofs.Common.{◌≡◌, ◌<◌, ℕ, List, [], ◌∷◌, ◌++◌, Option, Some, None, Result, Ok, Err, IfOk, IfSome, refl, sym, ap, subst, ◌∙◌, inl, inr, arith, append-nil, eq-eqb}
 use Rattle.std.specs.Prelude.{Contains, Vec}
 use Rattle.std.proofs.lemmas.Bool.{eqb-true}
 use Rattle.std.specs.List.{AllByRecursion}
@@ -20,27 +20,26 @@ use Rattle.craq_model.specs.Plain.{Plain}
 use Rattle.craq_seat.specs.declared.calls.Call.{Call}
 use Rattle.craq_seat.specs.declared.journal.Opening.{Opening}
 use Rattle.craq_seat.specs.declared.journal.Receipt.{Receipt}
-use Rattle.craq_seat.specs.declared.journal.Record.{Record}
 use Rattle.craq_seat.specs.Calls.{Called, CallsOf, Desked, accepted, answered_call, ask_of, call_under, called_by, called_in}
 use Rattle.craq_seat.specs.Cells.{Celled, cell_step, receipt_of, recorded, stamped, with_inside, with_record}
 use Rattle.craq_seat.specs.Merge.{AtNode as HappensAtNode, MergedStep, node_line}
 use Rattle.craq_seat.specs.Stamps.{event_stamp, next_stamp}
 use Rattle.craq_seat.specs.Taken.{TakesEvent}
 use Rattle.craq_seat.proofs.Taking.{above}
-use Rattle.craq_causality.specs.Causal.{HasStopped, IsOfSent, IsOfType}
+use Rattle.craq_causality.specs.Causal.{IsOfType}
 use Rattle.craq_causality.proofs.Orders.{IsIn, from_contains, in_left, in_right, to_contains}
 use Rattle.craq_ghost_history.specs.declared.author.Author.TheVariants.{Node}
 use Rattle.craq_ghost_history.specs.Histories.{IsAdded, MayAdd, Written}
 use Rattle.craq_store_history.specs.declared.entry.CallId.{CallId}
 use Rattle.craq_store_history.specs.declared.entry.Entry.{Entry}
 use Rattle.craq_store_history.specs.declared.entry.Entry.TheVariants.{AtNode}
-use Rattle.craq_store_history.specs.Chains.{Accepts, IsHistory}
-use Rattle.craq_store_history.specs.Entries.{author_of, line_in, lines_in, node_record}
-use Rattle.craq_store_history.specs.Steps.{IsNodeAt, MayStep}
+use Rattle.craq_store_history.specs.Chains.{IsHistory}
+use Rattle.craq_store_history.specs.Entries.{author_of, line_in, lines_in, node_record, permit_of}
+use Rattle.craq_store_history.specs.Steps.{MayStep}
 use Rattle.craq_store_history.proofs.Adding.{node_may, node_seen}
 use Rattle.craq_store_history.proofs.Lines.{lines_more}
 use Rattle.craq_store_parts.proofs.Running.{stop_alone}
-use Rattle.craq_store_parts.specs.Recorded.{HasAccepted, HasAnswered, HasReplied, HasStep, HasTaken, HaveReplied, IsRecorded, MayHappen}
+use Rattle.craq_store_parts.specs.Recorded.{HasAccepted, HasAnswered, HasStep, HasTaken, HasTakenAfter, HaveReplied, IsRecorded, MayHappen, StandsAfter}
 
 -- ---- a step that was taken
 
@@ -110,8 +109,18 @@ still_recorded represents old new w r s =
 
 -- ---- the step in the history
 
+pub in_later : (xs ys : List Entry) (x : Entry) → IsPrefix xs ys → Contains xs x → Contains ys x
+in_later xs ys x p there = subst (λ (zs : List Entry). Contains zs x) p.1 (to_contains (xs ++ p.0) x (in_left xs p.0 x (from_contains xs x there)))
+
 in_last : (xs : List Entry) (e : Entry) → Contains (xs ++ e ∷ []) e
 in_last xs e = to_contains (xs ++ e ∷ []) e (in_right xs (e ∷ []) e (inl refl))
+
+-- it stands after all that the author had learned
+pub stands_last : (seen reported new : List Entry) (e : Entry) → IsAdded author_of seen reported e new → StandsAfter reported new e
+stands_last seen reported new e a = (a.before, a.heard, ([], append-nil (a.before ++ e ∷ []) ∙ sym a.now))
+
+pub stands_in : (old log : List Entry) (e : Entry) → StandsAfter old log e → Contains log e
+stands_in old log e s = in_later (s.0 ++ e ∷ []) log e s.2 (in_last s.0 e)
 
 pub has_added : (seen reported new : List Entry) (e : Entry) → IsAdded author_of seen reported e new → Contains new e
 has_added seen reported new e a = subst (λ (l : List Entry). Contains l e) (sym a.now) (in_last a.before e)
@@ -183,7 +192,7 @@ module _ {C : Type 0} (represents : C → Plain → Type 0) (old : Desked C) (ne
   pub desk_own : Node name.chain name.node ≡ w.author
   desk_own = rw its_name (sym r.author)
 
-  pub desk_may : MayAdd author_of IsHistory w.seen reported (AtNode name stamp noted pass step call)
+  pub desk_may : MayAdd author_of permit_of IsHistory w.seen reported (AtNode name stamp noted pass step call)
   desk_may = rw (its_name, stamped_is) (node_may old.cell.opening.name w.seen reported new.stamp noted pass step call t.next (may_step represents old new w reported event noted pass step call r t is says may typed))
 
   pub desk_recorded : (waiting : List Call) (v : Written Entry) → v.author ≡ w.author → IsAdded author_of w.seen reported (AtNode name stamp noted pass step call) v.seen → IsRecorded represents (record { cell = new; waiting = waiting }) v
@@ -199,6 +208,13 @@ module _ {C : Type 0} (represents : C → Plain → Type 0) (old : Desked C) (ne
       let at_stamp = subst (λ (k : ℕ). Contains log (AtNode new.opening.name k noted pass step call)) stamped_is at_name in
       some_last new.last t.step (λ (s : Step). HasTaken log new.opening.name new.stamp event pass s call) t.last (noted, step, at_stamp, is, says)
 
+  pub desk_after : (seen log : List Entry) → IsAdded author_of w.seen reported (AtNode name stamp noted pass step call) seen → log ≡ seen → IfSome new.last (λ (s : Step). HasTakenAfter reported log new.opening.name new.stamp event pass s call)
+  desk_after seen log a same =
+      let here : StandsAfter reported log (AtNode name stamp noted pass step call) = subst (λ (l : List Entry). StandsAfter reported l (AtNode name stamp noted pass step call)) (sym same) (stands_last w.seen reported seen (AtNode name stamp noted pass step call) a) in
+      let at_name = subst (λ (n : NodeName). StandsAfter reported log (AtNode n stamp noted pass step call)) named here in
+      let at_stamp = subst (λ (k : ℕ). StandsAfter reported log (AtNode new.opening.name k noted pass step call)) stamped_is at_name in
+      some_last new.last t.step (λ (s : Step). HasTakenAfter reported log new.opening.name new.stamp event pass s call) t.last (noted, step, at_stamp, is, says)
+
 -- ---- the step in a longer history
 
 pub taken_in : (new : List Entry) (name : NodeName) (stamp : ℕ) (event : Event) (noted : Snapshot Event) (pass : ℕ) (step : Snapshot Step) (s : Step) (call : Option CallId)
@@ -207,8 +223,7 @@ taken_in new name stamp event noted pass step s call there is says = (noted, ste
 
 taken_later : (xs ys : List Entry) (name : NodeName) (stamp : ℕ) (event : Event) (pass : ℕ) (step : Step) (call : Option CallId) → IsPrefix xs ys → HasTaken xs name stamp event pass step call → HasTaken ys name stamp event pass step call
 taken_later xs ys name stamp event pass step call p (e, s, there, is, says) =
-    let x : Entry = AtNode name stamp e pass s call in
-    (e, s, subst (λ (zs : List Entry). Contains zs x) p.1 (to_contains (xs ++ p.0) x (in_left xs p.0 x (from_contains xs x there))), is, says)
+    (e, s, in_later xs ys (AtNode name stamp e pass s call) p there, is, says)
 
 pub accepted_later : (xs ys : List Entry) (name : NodeName) (call : CallId) (ticket : ℕ) → IsPrefix xs ys → HasAccepted xs name call ticket → HasAccepted ys name call ticket
 accepted_later xs ys name call ticket p h =

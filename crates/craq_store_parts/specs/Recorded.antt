@@ -1,7 +1,8 @@
 -- A node whose steps are in a store's history, and the calls that it accepted and answered there.
-use Rattle.std.specs.Prelude.{◌≡◌, ◌≢◌, ℕ, Bool, false, List, Contains, Option, Some, None, IfSome}
+use Rattle.std.specs.Prelude.{◌≡◌, ◌≢◌, ℕ, Bool, false, List, [], ◌∷◌, ◌++◌, Contains, Option, Some, None, IfSome}
 use Rattle.std.specs.List.{AllByRecursion}
 use Rattle.std.specs.declared.snapshot.Snapshot.{Snapshot}
+use mathlib.Core.List.{IsPrefix}
 use Rattle.craq_names.specs.declared.name.NodeName.{NodeName}
 use Rattle.craq_model.specs.declared.ask.Answer.{Answer}
 use Rattle.craq_model.specs.declared.ask.Event.{Event}
@@ -90,6 +91,15 @@ pub record MayHappen (log : List Entry) (name : NodeName) (event : Event) (call 
 abbrev pub HasTaken : List Entry → NodeName → ℕ → Event → ℕ → Step → Option CallId → Type 0
 HasTaken log name stamp event pass step call =
     (e : Snapshot Event) × (s : Snapshot Step) × Contains log (AtNode name stamp e pass s call) × (e.value ≡ event) × (s.value ≡ step)
+
+-- in this history the entry stands after all of `old`
+abbrev pub StandsAfter : List Entry → List Entry → Entry → Type 0
+StandsAfter old log e = (before : List Entry) × IsPrefix old before × IsPrefix (before ++ e ∷ []) log
+
+-- in this history, after all of `old`, the node took this step on this event; it accepted the call, if there is one
+abbrev pub HasTakenAfter : List Entry → List Entry → NodeName → ℕ → Event → ℕ → Step → Option CallId → Type 0
+HasTakenAfter old log name stamp event pass step call =
+    (e : Snapshot Event) × (s : Snapshot Step) × StandsAfter old log (AtNode name stamp e pass s call) × (e.value ≡ event) × (s.value ≡ step)
 
 -- in this history the node accepted the call under the ticket
 pub record HasAccepted (log : List Entry) (name : NodeName) (call : CallId) (ticket : ℕ) : Type 0 where

@@ -1,8 +1,11 @@
--- Values on their way between the parts of a store: bytes of messages that were sent, and calls that were made.
-use Rattle.std.specs.Prelude.{◌≡◌, ℕ, List, [], ◌∷◌}
+-- Values on their way between the parts of a store: bytes of messages that were sent, calls that were made, and refusals that give a
+-- call back.
+use Rattle.std.specs.Prelude.{◌≡◌, ℕ, List, [], ◌∷◌, Option, Result, Ok, Err, option_map}
 use Rattle.std.specs.List.{AllByRecursion}
 use Rattle.std.specs.declared.snapshot.Snapshot.{Snapshot}
 use Rattle.craq_names.specs.declared.name.NodeName.{NodeName}
+use Rattle.craq_names.specs.declared.refusal.Refusal.{Refusal}
+use Rattle.craq_seat.specs.declared.journal.Receipt.{Receipt}
 use Rattle.craq_model.specs.declared.ask.Ask.{Ask}
 use Rattle.craq_model.specs.declared.message.LinkMessage.{LinkMessage}
 use Rattle.craq_wire.specs.Encoding.{Encodes}
@@ -48,9 +51,35 @@ pub record Made : Type 0 where
   pub ask : Ask
   pub call : CallId
 
--- the session's writer has the right to its calls, whose numbers are below the next
+-- the view that contracts have of a call that was made, with its permit: what names it, and the history that the permit has seen
+pub record MadeCall : Type 0 where
+  pub call : CallId
+  pub seen : List Entry
+
+-- the view that contracts have of an event's origin: the call that it accepts, if there is one, and the history that it follows
+pub record Following : Type 0 where
+  pub call : Option CallId
+  pub seen : List Entry
+
+-- the call of an origin, if there is one
+abbrev pub made_in : Following → Option MadeCall
+made_in o = option_map (λ call. record { call = call; seen = o.seen }) o.call
+
+-- the view that contracts have of a refusal, of the call that it gives back, and of the history at which the node's rules gave it
+pub record RefusedCall : Type 0 where
+  pub refusal : Refusal
+  pub back : Option MadeCall
+  pub moment : Option (List Entry)
+
+-- the receipt of a step that was taken, or its refusal
+abbrev pub outcome_of : {X : Type 0} → Result (Receipt × X) RefusedCall → Result Receipt Refusal
+outcome_of (Ok r) = Ok r.0
+outcome_of (Err e) = Err e.refusal
+
+-- the session's writer has the right to its calls, whose numbers are below the next, and to the permits of the calls from the next on
 pub record IsSession (client next : ℕ) (writer : Written Entry) : Type 0 where
   pub author : writer.author ≡ Client client
+  pub permits : writer.next ≡ next
   pub fresh : MayMake writer.seen (record { client = client; number = next })
 
 -- the view that contracts have of a session: its number, that of its next call, and the history that it has seen

@@ -6,26 +6,32 @@
 
 mod answered_call;
 mod at;
+mod call_made;
+mod cause;
 mod joined_node;
 mod limits;
 mod made_ask;
 mod messages;
 mod recorded_book;
 mod recorded_desk;
+mod refused;
 mod session;
 mod stopped_node;
 mod wire;
 
 pub use answered_call::{AcceptedCall, AnsweredCall, StepReceipt};
 pub use at::At;
-use craq_ghost_history::{History, Token, Writer};
+pub use call_made::CallMade;
+pub use cause::{Cause, Origin};
+use craq_ghost_history::{Grant, History, Token, Writer};
 use craq_store_history::{Entry, StoreRule};
 pub use joined_node::{JoinedNode, open_joined};
 pub use made_ask::MadeAsk;
 pub use messages::{Messages, Outgoing, OwedAck};
 pub use recorded_book::RecordedBook;
-pub use recorded_desk::{Cause, RecordedDesk, StepCalls};
-pub use session::{CallMade, Session};
+pub use recorded_desk::{RecordedDesk, StepCalls};
+pub use refused::Refused;
+pub use session::Session;
 pub use stopped_node::StoppedNode;
 pub use wire::Wire;
 
@@ -34,6 +40,9 @@ pub type StoreHistory<N> = History<Entry, StoreRule, N>;
 
 /// A prefix of a store's history that was seen.
 pub type StoreToken<N> = Token<Entry, StoreRule, N>;
+
+/// A prefix of a store's history that was seen, with the permit of a call if it has one.
+pub type StoreGrant<N> = Grant<Entry, StoreRule, N>;
 
 /// The right to the entries of one author in a store's history.
 pub type StoreWriter<N> = Writer<Entry, StoreRule, N>;

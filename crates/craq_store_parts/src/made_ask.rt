@@ -3,21 +3,18 @@
 ghost use Rattle.std.specs.Prelude.{◌≡◌};
 ghost use Rattle.craq_store_history.specs.Chains.{WasCalled};
 
-use crate::StoreToken;
-use crate::session::CallMade;
+use crate::call_made::CallMade;
 use craq_ghost_history::Named;
 use craq_model::Ask;
 use craq_names::NodeName;
-use craq_store_history::CallId;
 use std::marker::Model;
 
-/// A request to a node: a client made this call of it in the token's history.
+/// A request to a node, with the call that a client made of it. No step has accepted the call.
 #[derive(Drop)]
 pub struct MadeAsk<N: Named> {
     name: NodeName,
     ask: Ask,
-    call: CallId,
-    token: StoreToken<N>,
+    made: CallMade<N>,
 }
 
 impl<N: Named> Model for MadeAsk<N> {
@@ -26,24 +23,18 @@ impl<N: Named> Model for MadeAsk<N> {
 
     ghost Value = { Made };
 
-    ghost view = { λ m. record { name = m.name; ask = m.ask; call = m.call } };
+    ghost view = { λ m. record { name = m.name; ask = m.ask; call = m.made.call } };
 
-    ghost invariant = { λ m. WasCalled m.token m.call m.name m.ask };
+    ghost invariant = { λ m. WasCalled m.made.seen m.made.call m.name m.ask };
 }
 
 impl<N: Named> MadeAsk<N> {
     /// Makes the request of a call that was made of it.
     pub fn new(made: CallMade<N>, name: NodeName, ask: Ask) -> Self
-        requires { WasCalled made.token made.call name ask }
+        requires { WasCalled made.seen made.call name ask }
         ensures { result ≡ record { name = name; ask = ask; call = made.call } }
     {
-        let CallMade { call, token } = made;
-        MadeAsk {
-            name,
-            ask,
-            call,
-            token,
-        }
+        MadeAsk { name, ask, made }
     }
 
     /// Returns the name of the node that is asked. Never allocates.
@@ -60,18 +51,13 @@ impl<N: Named> MadeAsk<N> {
         &self.ask
     }
 
-    /// Returns the request, its call, and a token that has seen the call.
+    /// Returns the request and its call.
     pub fn into_parts(self) -> (Ask, CallMade<N>)
         ensures ask { result.0 ≡ self.ask }
         ensures call { result.1.call ≡ self.call }
-        ensures made { WasCalled result.1.token self.call self.name self.ask }
+        ensures made { WasCalled result.1.seen self.call self.name self.ask }
     {
-        let MadeAsk {
-            name: _,
-            ask,
-            call,
-            token,
-        } = self;
-        (ask, CallMade { call, token })
+        let MadeAsk { name: _, ask, made } = self;
+        (ask, made)
     }
 }

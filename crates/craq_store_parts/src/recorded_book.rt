@@ -9,11 +9,12 @@ ghost use Rattle.craq_causality.specs.Causal.{IsOfStopped};
 ghost use Rattle.craq_ghost_history.specs.declared.author.Author.TheVariants as Author;
 ghost use Rattle.craq_store_history.specs.Entries.{lines_in};
 ghost use Rattle.craq_store_history.specs.Steps.{IsMasterAt};
-ghost use Rattle.craq_store_parts.specs.Recorded.{HasOrdered, HasStep, IsRecordedBook, IsUnmoved};
+ghost use Rattle.craq_store_parts.specs.Recorded.{HasStep, IsRecordedBook, IsUnmoved};
+ghost use Rattle.craq_store_parts.specs.Witnessed.{IsWitnessedOrder};
 
 use crate::joined_node::JoinedNode;
 use crate::{StoreHistory, StoreToken, StoreWriter};
-use craq_ghost_history::Named;
+use craq_ghost_history::{Grant, Named};
 use craq_names::{NodeId, NodeName, Pass, Refusal};
 use craq_seat::{BookCell, BookEvent, Receipt};
 use craq_store_history::Entry;
@@ -87,7 +88,7 @@ impl<N: Named> RecordedBook<N> {
     /// Takes one step of the master, exactly as `BookCell::take` does, and adds it to the history,
     /// after all that the token has seen. Returns also a token that has seen the step. On a refusal
     /// nothing is changed and nothing added.
-    fn take_step(
+    pub fn take(
         &mut self,
         alloc: Global,
         history: &StoreHistory<N>,
@@ -99,7 +100,7 @@ impl<N: Named> RecordedBook<N> {
         ensures step { TakesTransition self.old self.new event pass (receipt_in result) }
         ensures kept { IsBook self.new }
         ensures opening { self.new.opening ≡ self.old.opening }
-        ensures ordered { IfOk result (λ r. HasOrdered r.1 self.old.opening.name.chain event) }
+        ensures ordered { IfOk result (λ r. IsWitnessedOrder token self.old.opening.name.chain event r.0 r.1) }
     {
         match self.cell.take(alloc, copy_of(&event), pass) {
             Err(refusal) => {
@@ -117,55 +118,35 @@ impl<N: Named> RecordedBook<N> {
                     pass,
                     step: Snapshot::of(step),
                 };
-                let token = self.writer.add_after(history, &entry, token);
+                let reported = Grant::without_permit(token);
+                let token = self.writer.add_with(history, &entry, reported);
                 Ok((receipt, token))
             }
         }
     }
 
-    /// Takes one step of the master, exactly as `BookCell::take` does, and adds it to the history,
-    /// after all that the token has seen. On a refusal nothing is changed and nothing added.
-    pub fn take(
-        &mut self,
-        alloc: Global,
-        history: &StoreHistory<N>,
-        event: BookEvent,
-        pass: Pass,
-        token: StoreToken<N>,
-    ) -> Result<Receipt, Refusal>
-        requires { IsOfStopped (lines_in self.old.opening.name.chain token) event }
-        ensures step { TakesTransition self.old self.new event pass result }
-        ensures kept { IsBook self.new }
-        ensures opening { self.new.opening ≡ self.old.opening }
-    {
-        match self.take_step(alloc, history, event, pass, token) {
-            Ok((receipt, seen)) => {
-                drop(seen);
-                Ok(receipt)
-            }
-            Err(refusal) => Err(refusal),
-        }
-    }
-
-    /// Lets a node join, exactly as `BookCell::take` does, and adds the step to the history. Returns
-    /// also the node, with a token of its join. On a refusal nothing is changed and nothing added.
+    /// Lets a node join, exactly as `BookCell::take` does, and adds the step to the history, after
+    /// all that the token has seen. Returns also the node, and a token that has seen the step. On a
+    /// refusal nothing is changed and nothing added.
     pub fn join(
         &mut self,
         alloc: Global,
         history: &StoreHistory<N>,
         node: NodeId,
-    ) -> Result<(Receipt, JoinedNode<N>), Refusal>
+        token: StoreToken<N>,
+    ) -> Result<(Receipt, (JoinedNode<N>, StoreToken<N>)), Refusal>
         ensures step { TakesTransition self.old self.new (BookEvent.Join node) 0 (receipt_in result) }
         ensures kept { IsBook self.new }
         ensures opening { self.new.opening ≡ self.old.opening }
-        ensures joined { IfOk result (λ r. r.1 ≡ record { chain = self.old.opening.name.chain; node = node }) }
+        ensures joined { IfOk result (λ r. r.1.0 ≡ record { chain = self.old.opening.name.chain; node = node }) }
+        ensures ordered { IfOk result (λ r. IsWitnessedOrder token self.old.opening.name.chain (BookEvent.Join node) r.0 r.1.1) }
     {
         let chain = self.cell.opening().name.chain;
-        let token = self.writer.token(history);
-        match self.take_step(alloc, history, BookEvent::Join(node), Pass::start(), token) {
+        match self.take(alloc, history, BookEvent::Join(node), Pass::start(), token) {
             Ok((receipt, seen)) => {
-                let joined = JoinedNode::new(NodeName { chain, node }, seen);
-                Ok((receipt, joined))
+                let mut seen = seen;
+                let joined = JoinedNode::new(NodeName { chain, node }, seen.again(history));
+                Ok((receipt, (joined, seen)))
             }
             Err(refusal) => Err(refusal),
         }

@@ -1,40 +1,38 @@
 //! `RecordedDesk`: a node's desk whose steps are entries of the store's history; a running node has
 //! one under its lock.
-ghost use Rattle.std.specs.Prelude.{◌≡◌, ℕ, false, [], None, Some, if◌then◌else◌, IfOk, IfSome, IsNone, IsOk, IsSome, OnErr};
+ghost use Rattle.std.specs.Prelude.{◌≡◌, ℕ, false, [], None, Some, if◌then◌else◌, IfErr, IfOk, IfSome, IsNone, IsOk, IsSome, OnErr};
+ghost use Rattle.craq_model.specs.declared.ask.Ask.{Ask};
 ghost use Rattle.craq_model.specs.declared.ask.Event.{Event};
 ghost use Rattle.craq_model.specs.Plain.{Plain};
 ghost use Rattle.craq_node.specs.Represented.{CanArrive, IsFree};
-ghost use Rattle.craq_seat.specs.Calls.{CallsOf, receipt_in};
+ghost use Rattle.craq_seat.specs.Calls.{CallsOf};
 ghost use Rattle.craq_seat.specs.Cells.{receipt_of, with_inside};
 ghost use Rattle.craq_seat.specs.Kept.{IsKept};
 ghost use Rattle.craq_seat.specs.Stamps.{event_stamp, next_stamp};
 ghost use Rattle.craq_seat.specs.Taken.{TakesEvent};
 ghost use Rattle.craq_ghost_history.specs.declared.author.Author.TheVariants as Author;
 ghost use Rattle.craq_store_history.specs.Entries.{lines_in};
-ghost use Rattle.craq_store_parts.specs.Recorded.{CanBegin, HasStep, HasTaken, HaveReplied, IsRecorded, MayHappen, accepted_under};
+ghost use Rattle.craq_store_history.specs.Chains.{Accepts, WasCalled};
+ghost use Rattle.craq_store_parts.specs.Recorded.{CanBegin, HasStep, HasTaken, HasTakenAfter, HaveReplied, IsRecorded, MayHappen, accepted_under};
+ghost use Rattle.craq_store_parts.specs.Sent.{made_in, outcome_of};
+ghost use Rattle.craq_store_parts.specs.Witnessed.{RefusesAt};
 
 use crate::answered_call::AcceptedCall;
+use crate::call_made::CallMade;
+use crate::cause::{Cause, Origin};
 use crate::limits::keep_event_limits;
+use crate::refused::Refused;
 use crate::stopped_node::StoppedNode;
 use crate::{StoreHistory, StoreToken, StoreWriter};
 use craq_ghost_history::Named;
 use craq_model::Event;
-use craq_names::{Pass, Refusal};
+use craq_names::Refusal;
 use craq_node::Core;
 use craq_seat::{CallReceipt, Cell, Desk, Receipt};
 use craq_store_history::{CallId, Entry};
 use std::alloc::{AllocError, Global};
 use std::marker::Model;
 use std::snapshot::Snapshot;
-
-/// The cause of an event: the pass that came with it, the call that it accepts, if it is a request,
-/// and a token that has seen the sending of its message, or the call.
-#[derive(Drop)]
-pub struct Cause<N: Named> {
-    pub pass: Pass,
-    pub call: Option<CallId>,
-    pub token: StoreToken<N>,
-}
 
 /// The calls of a step: the receipts of those that it answered, or a failed allocation; the one
 /// that it accepted, if it did; and a token that has seen the step.
@@ -62,6 +60,50 @@ fn accepted_call<C: Core + Named>(
     let ticket = cell.last()?.ticket?;
     let name = cell.opening().name;
     Some(AcceptedCall::new(*call, name, ticket, token.again(history)))
+}
+
+/// Makes the refusal of a call by a node's rules. The node sees the call first, so the refusal's
+/// moment comes after it, and has all of the node's steps.
+fn refuse_call<C: Core + Named>(
+    history: &StoreHistory<C>,
+    desk: &Desk<C>,
+    writer: &mut StoreWriter<C>,
+    refusal: Refusal,
+    made: CallMade<C>,
+) -> Refused<C>
+    requires recorded { IsRecorded C.represents desk.now writer.old }
+    requires refuses { (ask : Ask) × WasCalled made.seen made.call desk.now.cell.opening.name ask × RefusesAt writer.old.seen desk.now.cell.opening.name desk.now.cell.stamp (Event.Ask ask) refusal }
+    ensures refused { result ≡ record { refusal = refusal; back = Some made; moment = Some writer.new.seen } }
+    ensures recorded { IsRecorded C.represents desk.now writer.new }
+{
+    let _ = desk;
+    let mut made = made;
+    let called = made.token(history);
+    writer.learn(history, called);
+    let moment = writer.token(history);
+    Refused::by_node(refusal, made, moment)
+}
+
+/// Makes the refusal of an event by a node's rules. It gives the call of the event's origin back, if
+/// there is one, with the moment at which the node refuses it.
+fn refuse<C: Core + Named>(
+    history: &StoreHistory<C>,
+    desk: &Desk<C>,
+    writer: &mut StoreWriter<C>,
+    refusal: Refusal,
+    origin: Origin<C>,
+) -> Refused<C>
+    requires recorded { IsRecorded C.represents desk.now writer.old }
+    requires refuses { (event : Event) × Accepts origin.seen desk.now.cell.opening.name event origin.call × RefusesAt writer.old.seen desk.now.cell.opening.name desk.now.cell.stamp event refusal }
+    ensures refusal { result.refusal ≡ refusal }
+    ensures back { result.back ≡ made_in origin }
+    ensures moment { IsSome origin.call → IsSome result.moment }
+    ensures recorded { IsRecorded C.represents desk.now writer.new }
+{
+    match origin.back() {
+        None => Refused::new(refusal, None),
+        Some(made) => refuse_call(history, desk, writer, refusal, made),
+    }
 }
 
 /// A node's desk, with the right to the node's entries in the store's history. Each step of the
@@ -118,41 +160,46 @@ impl<C: Core + Named> RecordedDesk<C> {
     }
 
     /// Takes one step of the desk, exactly as `Desk::take` does, and adds it to the history, after
-    /// all that the token of its cause has seen. On a refusal nothing is changed and nothing added.
+    /// all that the origin of its cause has seen. A step that accepts a call uses the call's permit
+    /// up. On a refusal nothing is changed and nothing added. The call is given back then, with the
+    /// moment of the history at which the node refuses it.
     pub fn take(
         &mut self,
         alloc: Global,
         history: &StoreHistory<C>,
         event: Event,
         cause: Cause<C>,
-    ) -> Result<(Receipt, StepCalls<C>), Refusal>
+    ) -> Result<(Receipt, StepCalls<C>), Refused<C>>
         requires arrives { CanArrive event }
-        requires may { MayHappen cause.token self.old.cell.opening.name event cause.call }
-        ensures step { (p : Plain) → C.represents self.old.cell.inside p → TakesEvent C.represents self.new.cell (with_inside self.old.cell p) event cause.pass (receipt_in result) }
+        requires may { MayHappen cause.origin.seen self.old.cell.opening.name event cause.origin.call }
+        ensures step { (p : Plain) → C.represents self.old.cell.inside p → TakesEvent C.represents self.new.cell (with_inside self.old.cell p) event cause.pass (outcome_of result) }
         ensures receipt { IfOk result (λ r. r.0 ≡ receipt_of self.new.cell) }
         ensures kept { IsKept C.represents self.new.cell }
         ensures free { (p : Plain) → C.represents self.old.cell.inside p → IsFree p event → IsNone self.old.cell.journal → IsOk (next_stamp self.old.cell.stamp cause.pass (event_stamp event)) → IsOk result }
         ensures calls { IfOk result (λ r. IfSome self.new.cell.last (λ step. CallsOf self.old.waiting self.new.waiting event r.0 cause.pass step r.1.calls)) }
         ensures same { OnErr result (self.new.waiting ≡ self.old.waiting) }
+        ensures back { IfErr result (λ e. e.back ≡ made_in cause.origin) }
+        ensures moment { IfErr result (λ e. IsSome cause.origin.call → IsSome e.moment) }
         ensures opening { self.new.cell.opening ≡ self.old.cell.opening }
         ensures moved { IfOk result (λ r. IsSome self.new.cell.last) }
-        ensures accepted { IfOk result (λ r. IfSome self.new.cell.last (λ step. r.1.accepted ≡ accepted_under self.new.cell.opening.name cause.call step.ticket)) }
-        ensures taken { IfOk result (λ r. IfSome self.new.cell.last (λ step. HasTaken r.1.token self.new.cell.opening.name self.new.cell.stamp event cause.pass step cause.call)) }
+        ensures accepted { IfOk result (λ r. IfSome self.new.cell.last (λ step. r.1.accepted ≡ accepted_under self.new.cell.opening.name cause.origin.call step.ticket)) }
+        ensures taken { IfOk result (λ r. IfSome self.new.cell.last (λ step. HasTakenAfter cause.origin.seen r.1.token self.new.cell.opening.name self.new.cell.stamp event cause.pass step cause.origin.call)) }
         ensures replied { IfOk result (λ r. IfOk r.1.calls (λ receipts. HaveReplied r.1.token self.new.cell.opening.name receipts.items)) }
     {
         let noted = Snapshot::of(&event);
         keep_event_limits(&event);
-        let Cause { pass, call, token } = cause;
+        let Cause { pass, origin } = cause;
         match self.desk.take(alloc, event, pass) {
             Err(refusal) => {
-                drop(token);
-                Err(refusal)
+                let desk = &self.desk;
+                Err(refuse(history, desk, &mut self.writer, refusal, origin))
             }
             Ok((receipt, calls)) => {
                 let cell = self.desk.cell();
                 let Some(step) = cell.last() else {
                     unreachable!()
                 };
+                let (call, grant) = origin.into_parts();
                 let entry = Entry::AtNode {
                     name: cell.opening().name,
                     stamp: cell.stamp(),
@@ -161,7 +208,7 @@ impl<C: Core + Named> RecordedDesk<C> {
                     step: Snapshot::of(step),
                     call,
                 };
-                let mut token = self.writer.add_after(history, &entry, token);
+                let mut token = self.writer.add_with(history, &entry, grant);
                 let accepted = accepted_call(history, cell, &call, &mut token);
                 let calls = StepCalls {
                     calls,

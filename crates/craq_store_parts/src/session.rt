@@ -1,4 +1,5 @@
-//! `Session`: a client's session, which adds each call to the history before it is asked.
+//! `Session`: a client's session, which adds each call to the history before it is asked, and takes
+//! a call back that no step accepted.
 ghost use Rattle.std.specs.Prelude.{◌≡◌, ◌+◌, [], None, IfSome, IsNone};
 ghost use Rattle.craq_names.specs.Limits.{greatest};
 ghost use mathlib.Core.List.{IsPrefix};
@@ -7,9 +8,11 @@ ghost use Rattle.craq_ghost_history.specs.Histories.{AreComparable};
 ghost use Rattle.craq_store_history.specs.Chains.{IsHistory, WasCalled};
 ghost use Rattle.craq_store_history.specs.Entries.{author_of};
 ghost use Rattle.craq_store_parts.specs.Recorded.{HasAccepted, HasReplied};
+ghost use Rattle.craq_store_parts.specs.Witnessed.{IsNeverAccepted};
 ghost use Rattle.craq_store_parts.specs.Sent.{IsMade, IsSession};
 
 use crate::answered_call::AnsweredCall;
+use crate::call_made::CallMade;
 use crate::{StoreHistory, StoreToken, StoreWriter};
 use craq_ghost_history::{Named, Registrar};
 use craq_model::Ask;
@@ -18,13 +21,6 @@ use craq_seat::CallReceipt;
 use craq_store_history::{CallId, Entry, StoreRule};
 use std::marker::Model;
 use std::snapshot::Snapshot;
-
-/// A call that was made: what names it, and a token that has seen it.
-#[derive(Drop)]
-pub struct CallMade<N: Named> {
-    pub call: CallId,
-    pub token: StoreToken<N>,
-}
 
 /// A client's session: it numbers its calls, and no two have one number.
 #[derive(Drop)]
@@ -57,6 +53,7 @@ fn learn_both<N: Named>(
     ensures second { IsPrefix second writer.new.seen }
     ensures own { of author_of writer.old.author writer.new.seen ≡ of author_of writer.old.author writer.old.seen }
     ensures author { writer.new.author ≡ writer.old.author }
+    ensures next { writer.new.next ≡ writer.old.next }
     ensures holds { IsHistory writer.new.seen }
 {
     writer.learn(history, first);
@@ -90,8 +87,8 @@ impl<N: Named> Session<N> {
         Some(Session::new(client, writer))
     }
 
-    /// Makes a call: adds it to the history, after all that the session has seen. None, with
-    /// nothing changed: the session made 2^64 - 1 calls.
+    /// Makes a call: adds it to the history, after all that the session has seen, and gives its
+    /// permit. None, with nothing changed: the session made 2^64 - 1 calls.
     pub fn call(
         &mut self,
         history: &StoreHistory<N>,
@@ -100,8 +97,8 @@ impl<N: Named> Session<N> {
     ) -> Option<CallMade<N>>
         ensures call { IfSome result (λ c. c.call ≡ record { client = self.old.client; number = self.old.next }) }
         ensures made { IfSome result (λ c. IsMade self.old.seen c.call name ask.now self.new.seen) }
-        ensures token { IfSome result (λ c. c.token ≡ self.new.seen) }
-        ensures called { IfSome result (λ c. WasCalled c.token c.call name ask.now) }
+        ensures seen { IfSome result (λ c. c.seen ≡ self.new.seen) }
+        ensures called { IfSome result (λ c. WasCalled c.seen c.call name ask.now) }
         ensures next { IfSome result (λ c. self.new.next ≡ self.old.next + 1) }
         ensures client { self.new.client ≡ self.old.client }
         ensures none { result ≡ None → (self.old.next ≡ greatest) × (self.new ≡ self.old) }
@@ -118,9 +115,43 @@ impl<N: Named> Session<N> {
             name,
             ask: Snapshot::of(ask),
         };
-        let token = self.writer.add(history, &entry);
+        drop(self.writer.add(history, &entry));
+        let grant = self.writer.permit(history);
         self.next += 1;
-        Some(CallMade { call, token })
+        Some(CallMade::new(call, grant))
+    }
+
+    /// Returns a token that has seen as much as the session.
+    pub fn token(&mut self, history: &StoreHistory<N>) -> StoreToken<N>
+        ensures token { result ≡ self.old.seen }
+        ensures same { self.new ≡ self.old }
+    {
+        self.writer.token(history)
+    }
+
+    /// Sees all that the token has seen, and so each step in it. What the session does from then on
+    /// comes after them.
+    pub fn learn(&mut self, history: &StoreHistory<N>, token: StoreToken<N>)
+        ensures that { IsPrefix token self.new.seen }
+        ensures history { IsHistory self.new.seen }
+        ensures later { IsPrefix self.old.seen self.new.seen }
+        ensures client { (self.new.client ≡ self.old.client) × (self.new.next ≡ self.old.next) }
+    {
+        self.writer.learn(history, token);
+    }
+
+    /// Takes a call back that came back with its permit: adds to the history, after all that was
+    /// there, that no step accepts it. None has, and none will.
+    pub fn take_back(&mut self, history: &StoreHistory<N>, made: CallMade<N>)
+        requires { made.call.client ≡ self.old.client }
+        ensures never { IsNeverAccepted self.new.seen made.call }
+        ensures history { IsHistory self.new.seen }
+        ensures later { IsPrefix self.old.seen self.new.seen }
+        ensures client { (self.new.client ≡ self.old.client) × (self.new.next ≡ self.old.next) }
+    {
+        let (call, grant) = made.into_parts();
+        let entry = Entry::Withdrawn { call };
+        drop(self.writer.add_with(history, &entry, grant));
     }
 
     /// Sees the steps in which a node accepted a call and replied to it, and returns the receipt of

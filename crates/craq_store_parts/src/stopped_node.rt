@@ -6,7 +6,7 @@ ghost use Rattle.craq_store_history.specs.Entries.{lines_in};
 use crate::StoreToken;
 use craq_epochs::StopReceipt;
 use craq_ghost_history::Named;
-use craq_names::ChainId;
+use craq_names::NodeName;
 use craq_seat::Receipt;
 use std::marker::Model;
 
@@ -44,11 +44,11 @@ impl<N: Named> StoppedNode<N> {
         }
     }
 
-    /// Returns the chain of the node.
-    pub fn chain(&self) -> ChainId
-        ensures { result ≡ self.now.stopped.chain }
+    /// Returns the name of the node.
+    pub fn name(&self) -> NodeName
+        ensures { result ≡ self.now.stopped }
     {
-        self.stopped.name().chain
+        self.stopped.name()
     }
 
     /// Returns the proof, the receipt, and the token.

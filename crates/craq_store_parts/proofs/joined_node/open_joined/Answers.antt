@@ -1,4 +1,3 @@
-use Rattle.std.proofs.Common.{subst, sym}
 use Rattle.craq_store_parts.proofs.Joining.{begins_joined}
 use Rattle.craq_store_parts.proofs.joined_node.open_joined.Goals as goal
 

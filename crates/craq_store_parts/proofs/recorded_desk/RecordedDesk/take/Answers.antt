@@ -1,4 +1,4 @@
-use Rattle.std.proofs.Common.{◌≡◌, ◌∙◌, ap, refl, sym, subst, Option, None, Ok, Bor}
+use Rattle.std.proofs.Common.{◌≡◌, ◌∙◌, ap, refl, sym, subst, Option, Ok, Bor}
 use Rattle.std.specs.Prelude.{IsSome}
 use Rattle.std.specs.Option.{option_copied}
 use Rattle.craq_model.specs.declared.step.Step.{Step}
@@ -7,9 +7,24 @@ use Rattle.craq_seat.specs.Calls.{Desked}
 use Rattle.craq_seat.specs.Cells.{with_inside}
 use Rattle.craq_seat.specs.Taken.{TakesEvent}
 use Rattle.craq_store_parts.specs.Recorded.{MayHappen}
-use Rattle.craq_store_parts.proofs.Recording.{Took, desk_may, desk_own, desk_recorded, desk_taken, last_replied, never, same_some, took}
+use Rattle.craq_store_parts.proofs.Recording.{Took, desk_after, desk_may, desk_own, desk_recorded, desk_taken, last_replied, never, same_some, took}
+use Rattle.craq_store_parts.proofs.Refusing.{accepts_still, refused_recorded, refuses_at}
 use Rattle.craq_store_parts.proofs.recorded_desk.RecordedDesk.take.Goals as goal
-use Rattle.craq_store_parts.proofs.recorded_desk.RecordedDesk.take.Goals.{in-Opened-1, in-Called-1, in-AtNode-1, in-AtMaster-1}
+use Rattle.craq_store_parts.proofs.recorded_desk.RecordedDesk.take.Goals.{in-Opened-1, in-Called-1, in-AtNode-1, in-AtMaster-1, in-Withdrawn-1}
+
+pub refuse-requires-clause-recorded : goal.refuse-requires-clause-recorded
+refuse-requires-clause-recorded g c =
+    refused_recorded g.C.Core.represents c.self.inside.desk c.take.new.self c.self.inside.writer c.args.event c.args.cause.pass c.in-Err.refusal c.self.invariant (c.in-Err.ensures.step c.self.invariant.node c.self.invariant.stands)
+
+pub refuse-requires-clause-refuses : goal.refuse-requires-clause-refuses
+refuse-requires-clause-refuses g c =
+    let takes = c.in-Err.ensures.step c.self.invariant.node c.self.invariant.stands in
+    let may : MayHappen c.args.cause.origin.seen c.self.inside.desk.cell.opening.name c.args.event c.args.cause.origin.call =
+    subst (λ (d : Desked g.row.C.Denot). MayHappen c.args.cause.origin.seen d.cell.opening.name c.args.event c.args.cause.origin.call) (sym c.self.view_is) c.requires.may in (
+      c.args.event,
+      accepts_still g.C.Core.represents c.self.inside.desk c.take.new.self c.self.inside.writer c.args.event c.args.cause.pass c.in-Err.refusal c.args.cause.origin c.self.invariant takes may,
+      refuses_at g.C.Core.represents c.self.inside.desk c.take.new.self c.self.inside.writer c.args.event c.args.cause.pass c.in-Err.refusal c.self.invariant takes,
+    )
 
 pub unreachable-requires : goal.unreachable-requires
 unreachable-requires g c =
@@ -21,8 +36,8 @@ unreachable-requires g c =
     let last : c.cell-cell.result.now.last ≡ new.cell.last = ap (λ x. x.last) c.cell-cell.ensures in
     never new.cell.last t.step (sym (none ∙ last)) t.last
 
-pub add_after-token-requires-clause-own : goal.add_after-token-requires-clause-own
-add_after-token-requires-clause-own g c =
+pub add_with-token-requires-clause-own : goal.add_with-token-requires-clause-own
+add_with-token-requires-clause-own g c =
     let old = c.self.inside.desk in
     let new = c.take.new.self in
     let t : Took g.C.Core.represents old.cell new.cell c.self.invariant.node c.args.event =
@@ -30,12 +45,12 @@ add_after-token-requires-clause-own g c =
     let named : c.opening.result.now.name ≡ new.cell.opening.name = ap (λ x. x.name) c.opening.ensures ∙ ap (λ x. x.opening.name) c.cell-cell.ensures in
     let stamped : c.stamp.result ≡ new.cell.stamp = c.stamp.ensures ∙ ap (λ x. x.stamp) c.cell-cell.ensures in
     let says : c.of.result.value ≡ t.step = c.of.ensures ∙ same_some (c.in-Some.ensures.value ∙ (ap (λ x. x.last) c.cell-cell.ensures ∙ t.last)) in
-    let may : MayHappen c.args.cause.token old.cell.opening.name c.args.event c.args.cause.call =
-    subst (λ (d : Desked g.row.C.Denot). MayHappen c.args.cause.token d.cell.opening.name c.args.event c.args.cause.call) (sym c.self.view_is) c.requires.may in
-    desk_own g.C.Core.represents old new.cell c.self.inside.writer c.args.cause.token c.args.event c.of-noted.result c.args.cause.pass c.of.result c.args.cause.call c.opening.result.now.name c.stamp.result c.self.invariant t named stamped c.of-noted.ensures says may c.keep_event_limits.ensures
+    let may : MayHappen c.args.cause.origin.seen old.cell.opening.name c.args.event c.args.cause.origin.call =
+    subst (λ (d : Desked g.row.C.Denot). MayHappen c.args.cause.origin.seen d.cell.opening.name c.args.event c.args.cause.origin.call) (sym c.self.view_is) c.requires.may in
+    desk_own g.C.Core.represents old new.cell c.self.inside.writer c.args.cause.origin.seen c.args.event c.of-noted.result c.args.cause.pass c.of.result c.args.cause.origin.call c.opening.result.now.name c.stamp.result c.self.invariant t named stamped c.of-noted.ensures says may c.keep_event_limits.ensures
 
-pub add_after-token-requires-clause-may : goal.add_after-token-requires-clause-may
-add_after-token-requires-clause-may g c =
+pub add_with-token-requires-clause-may : goal.add_with-token-requires-clause-may
+add_with-token-requires-clause-may g c =
     let old = c.self.inside.desk in
     let new = c.take.new.self in
     let t : Took g.C.Core.represents old.cell new.cell c.self.invariant.node c.args.event =
@@ -43,9 +58,10 @@ add_after-token-requires-clause-may g c =
     let named : c.opening.result.now.name ≡ new.cell.opening.name = ap (λ x. x.name) c.opening.ensures ∙ ap (λ x. x.opening.name) c.cell-cell.ensures in
     let stamped : c.stamp.result ≡ new.cell.stamp = c.stamp.ensures ∙ ap (λ x. x.stamp) c.cell-cell.ensures in
     let says : c.of.result.value ≡ t.step = c.of.ensures ∙ same_some (c.in-Some.ensures.value ∙ (ap (λ x. x.last) c.cell-cell.ensures ∙ t.last)) in
-    let may : MayHappen c.args.cause.token old.cell.opening.name c.args.event c.args.cause.call =
-    subst (λ (d : Desked g.row.C.Denot). MayHappen c.args.cause.token d.cell.opening.name c.args.event c.args.cause.call) (sym c.self.view_is) c.requires.may in
-    desk_may g.C.Core.represents old new.cell c.self.inside.writer c.args.cause.token c.args.event c.of-noted.result c.args.cause.pass c.of.result c.args.cause.call c.opening.result.now.name c.stamp.result c.self.invariant t named stamped c.of-noted.ensures says may c.keep_event_limits.ensures
+    let may : MayHappen c.args.cause.origin.seen old.cell.opening.name c.args.event c.args.cause.origin.call =
+    subst (λ (d : Desked g.row.C.Denot). MayHappen c.args.cause.origin.seen d.cell.opening.name c.args.event c.args.cause.origin.call) (sym c.self.view_is) c.requires.may in
+    rw (c.into_parts-call.ensures.seen, c.into_parts-call.ensures.call)
+    (desk_may g.C.Core.represents old new.cell c.self.inside.writer c.args.cause.origin.seen c.args.event c.of-noted.result c.args.cause.pass c.of.result c.args.cause.origin.call c.opening.result.now.name c.stamp.result c.self.invariant t named stamped c.of-noted.ensures says may c.keep_event_limits.ensures)
 
 pub accepted_call-accepted-requires : goal.accepted_call-accepted-requires
 accepted_call-accepted-requires g c =
@@ -56,9 +72,9 @@ accepted_call-accepted-requires g c =
     let named : c.opening.result.now.name ≡ new.cell.opening.name = ap (λ x. x.name) c.opening.ensures ∙ ap (λ x. x.opening.name) c.cell-cell.ensures in
     let stamped : c.stamp.result ≡ new.cell.stamp = c.stamp.ensures ∙ ap (λ x. x.stamp) c.cell-cell.ensures in
     let says : c.of.result.value ≡ t.step = c.of.ensures ∙ same_some (c.in-Some.ensures.value ∙ (ap (λ x. x.last) c.cell-cell.ensures ∙ t.last)) in
-    let may : MayHappen c.args.cause.token old.cell.opening.name c.args.event c.args.cause.call =
-    subst (λ (d : Desked g.row.C.Denot). MayHappen c.args.cause.token d.cell.opening.name c.args.event c.args.cause.call) (sym c.self.view_is) c.requires.may in
-    (c.args.event, c.args.cause.pass, rw c.cell-cell.ensures (desk_taken g.C.Core.represents old new.cell c.self.inside.writer c.args.cause.token c.args.event c.of-noted.result c.args.cause.pass c.of.result c.args.cause.call c.opening.result.now.name c.stamp.result c.self.invariant t named stamped c.of-noted.ensures says may c.keep_event_limits.ensures c.add_after-token.new.self.seen c.add_after-token.result c.add_after-token.ensures.added c.add_after-token.ensures.token))
+    let may : MayHappen c.args.cause.origin.seen old.cell.opening.name c.args.event c.args.cause.origin.call =
+    subst (λ (d : Desked g.row.C.Denot). MayHappen c.args.cause.origin.seen d.cell.opening.name c.args.event c.args.cause.origin.call) (sym c.self.view_is) c.requires.may in
+    (c.args.event, c.args.cause.pass, rw (c.cell-cell.ensures, c.into_parts-call.ensures.call) (desk_taken g.C.Core.represents old new.cell c.self.inside.writer c.args.cause.origin.seen c.args.event c.of-noted.result c.args.cause.pass c.of.result c.args.cause.origin.call c.opening.result.now.name c.stamp.result c.self.invariant t named stamped c.of-noted.ensures says may c.keep_event_limits.ensures c.add_with-token.new.self.seen c.add_with-token.result (rw (c.into_parts-call.ensures.seen, c.into_parts-call.ensures.call) at c.add_with-token.ensures.added) c.add_with-token.ensures.token))
 
 pub invariant_of-self-in-Some-3 : goal.invariant_of-self-in-Some-3
 invariant_of-self-in-Some-3 g c =
@@ -69,9 +85,9 @@ invariant_of-self-in-Some-3 g c =
     let named : c.opening.result.now.name ≡ new.cell.opening.name = ap (λ x. x.name) c.opening.ensures ∙ ap (λ x. x.opening.name) c.cell-cell.ensures in
     let stamped : c.stamp.result ≡ new.cell.stamp = c.stamp.ensures ∙ ap (λ x. x.stamp) c.cell-cell.ensures in
     let says : c.of.result.value ≡ t.step = c.of.ensures ∙ same_some (c.in-Some.ensures.value ∙ (ap (λ x. x.last) c.cell-cell.ensures ∙ t.last)) in
-    let may : MayHappen c.args.cause.token old.cell.opening.name c.args.event c.args.cause.call =
-    subst (λ (d : Desked g.row.C.Denot). MayHappen c.args.cause.token d.cell.opening.name c.args.event c.args.cause.call) (sym c.self.view_is) c.requires.may in
-    desk_recorded g.C.Core.represents old new.cell c.self.inside.writer c.args.cause.token c.args.event c.of-noted.result c.args.cause.pass c.of.result c.args.cause.call c.opening.result.now.name c.stamp.result c.self.invariant t named stamped c.of-noted.ensures says may c.keep_event_limits.ensures new.waiting c.add_after-token.new.self c.add_after-token.ensures.author c.add_after-token.ensures.added
+    let may : MayHappen c.args.cause.origin.seen old.cell.opening.name c.args.event c.args.cause.origin.call =
+    subst (λ (d : Desked g.row.C.Denot). MayHappen c.args.cause.origin.seen d.cell.opening.name c.args.event c.args.cause.origin.call) (sym c.self.view_is) c.requires.may in
+    desk_recorded g.C.Core.represents old new.cell c.self.inside.writer c.args.cause.origin.seen c.args.event c.of-noted.result c.args.cause.pass c.of.result c.args.cause.origin.call c.opening.result.now.name c.stamp.result c.self.invariant t named stamped c.of-noted.ensures says may c.keep_event_limits.ensures new.waiting c.add_with-token.new.self c.add_with-token.ensures.author (rw (c.into_parts-call.ensures.seen, c.into_parts-call.ensures.call) at c.add_with-token.ensures.added)
 
 pub returns-in-Some-clause-step : goal.returns-in-Some-clause-step
 returns-in-Some-clause-step g c =
@@ -83,6 +99,7 @@ returns-in-Some-clause-step g c =
       | in-Called-1 w ↦ rw w.self-is same
       | in-AtNode-1 w ↦ rw w.self-is same
       | in-AtMaster-1 w ↦ rw w.self-is same
+      | in-Withdrawn-1 w ↦ rw w.self-is same
     ]
 
 pub returns-in-Some-clause-opening : goal.returns-in-Some-clause-opening
@@ -97,6 +114,7 @@ returns-in-Some-clause-opening g c =
       | in-Called-1 w ↦ rw w.self-is same
       | in-AtNode-1 w ↦ rw w.self-is same
       | in-AtMaster-1 w ↦ rw w.self-is same
+      | in-Withdrawn-1 w ↦ rw w.self-is same
     ]
 
 pub returns-in-Some-clause-moved : goal.returns-in-Some-clause-moved
@@ -111,6 +129,7 @@ returns-in-Some-clause-moved g c =
       | in-Called-1 w ↦ rw w.self-is moved
       | in-AtNode-1 w ↦ rw w.self-is moved
       | in-AtMaster-1 w ↦ rw w.self-is moved
+      | in-Withdrawn-1 w ↦ rw w.self-is moved
     ]
 
 pub returns-in-Some-clause-taken : goal.returns-in-Some-clause-taken
@@ -122,14 +141,15 @@ returns-in-Some-clause-taken g c =
     let named : c.opening.result.now.name ≡ new.cell.opening.name = ap (λ x. x.name) c.opening.ensures ∙ ap (λ x. x.opening.name) c.cell-cell.ensures in
     let stamped : c.stamp.result ≡ new.cell.stamp = c.stamp.ensures ∙ ap (λ x. x.stamp) c.cell-cell.ensures in
     let says : c.of.result.value ≡ t.step = c.of.ensures ∙ same_some (c.in-Some.ensures.value ∙ (ap (λ x. x.last) c.cell-cell.ensures ∙ t.last)) in
-    let may : MayHappen c.args.cause.token old.cell.opening.name c.args.event c.args.cause.call =
-    subst (λ (d : Desked g.row.C.Denot). MayHappen c.args.cause.token d.cell.opening.name c.args.event c.args.cause.call) (sym c.self.view_is) c.requires.may in
-    let taken = desk_taken g.C.Core.represents old new.cell c.self.inside.writer c.args.cause.token c.args.event c.of-noted.result c.args.cause.pass c.of.result c.args.cause.call c.opening.result.now.name c.stamp.result c.self.invariant t named stamped c.of-noted.ensures says may c.keep_event_limits.ensures c.add_after-token.new.self.seen c.accepted_call-accepted.new.token c.add_after-token.ensures.added (c.accepted_call-accepted.ensures.same ∙ c.add_after-token.ensures.token) in
+    let may : MayHappen c.args.cause.origin.seen old.cell.opening.name c.args.event c.args.cause.origin.call =
+    subst (λ (d : Desked g.row.C.Denot). MayHappen c.args.cause.origin.seen d.cell.opening.name c.args.event c.args.cause.origin.call) (sym c.self.view_is) c.requires.may in
+    let taken = desk_after g.C.Core.represents old new.cell c.self.inside.writer c.args.cause.origin.seen c.args.event c.of-noted.result c.args.cause.pass c.of.result c.args.cause.origin.call c.opening.result.now.name c.stamp.result c.self.invariant t named stamped c.of-noted.ensures says may c.keep_event_limits.ensures c.add_with-token.new.self.seen c.accepted_call-accepted.new.token (rw (c.into_parts-call.ensures.seen, c.into_parts-call.ensures.call) at c.add_with-token.ensures.added) (c.accepted_call-accepted.ensures.same ∙ c.add_with-token.ensures.token) in
     elim c.match-entry.branch [
       | in-Opened-1 w ↦ rw w.self-is taken
       | in-Called-1 w ↦ rw w.self-is taken
       | in-AtNode-1 w ↦ rw w.self-is taken
       | in-AtMaster-1 w ↦ rw w.self-is taken
+      | in-Withdrawn-1 w ↦ rw w.self-is taken
     ]
 
 pub returns-in-Some-clause-replied : goal.returns-in-Some-clause-replied
@@ -141,14 +161,15 @@ returns-in-Some-clause-replied g c =
     let named : c.opening.result.now.name ≡ new.cell.opening.name = ap (λ x. x.name) c.opening.ensures ∙ ap (λ x. x.opening.name) c.cell-cell.ensures in
     let stamped : c.stamp.result ≡ new.cell.stamp = c.stamp.ensures ∙ ap (λ x. x.stamp) c.cell-cell.ensures in
     let says : c.of.result.value ≡ t.step = c.of.ensures ∙ same_some (c.in-Some.ensures.value ∙ (ap (λ x. x.last) c.cell-cell.ensures ∙ t.last)) in
-    let may : MayHappen c.args.cause.token old.cell.opening.name c.args.event c.args.cause.call =
-    subst (λ (d : Desked g.row.C.Denot). MayHappen c.args.cause.token d.cell.opening.name c.args.event c.args.cause.call) (sym c.self.view_is) c.requires.may in
-    let taken = desk_taken g.C.Core.represents old new.cell c.self.inside.writer c.args.cause.token c.args.event c.of-noted.result c.args.cause.pass c.of.result c.args.cause.call c.opening.result.now.name c.stamp.result c.self.invariant t named stamped c.of-noted.ensures says may c.keep_event_limits.ensures c.add_after-token.new.self.seen c.accepted_call-accepted.new.token c.add_after-token.ensures.added (c.accepted_call-accepted.ensures.same ∙ c.add_after-token.ensures.token) in
+    let may : MayHappen c.args.cause.origin.seen old.cell.opening.name c.args.event c.args.cause.origin.call =
+    subst (λ (d : Desked g.row.C.Denot). MayHappen c.args.cause.origin.seen d.cell.opening.name c.args.event c.args.cause.origin.call) (sym c.self.view_is) c.requires.may in
+    let taken = desk_taken g.C.Core.represents old new.cell c.self.inside.writer c.args.cause.origin.seen c.args.event c.of-noted.result c.args.cause.pass c.of.result c.args.cause.origin.call c.opening.result.now.name c.stamp.result c.self.invariant t named stamped c.of-noted.ensures says may c.keep_event_limits.ensures c.add_with-token.new.self.seen c.accepted_call-accepted.new.token (rw (c.into_parts-call.ensures.seen, c.into_parts-call.ensures.call) at c.add_with-token.ensures.added) (c.accepted_call-accepted.ensures.same ∙ c.add_with-token.ensures.token) in
     let replied =
-    last_replied c.accepted_call-accepted.new.token new.cell c.args.event c.args.cause.pass c.args.cause.call t.step t.last taken c.in-Ok.receipt c.in-Ok.ensures.receipt old.waiting new.waiting c.in-Ok.calls c.in-Ok.ensures.calls in
+    last_replied c.accepted_call-accepted.new.token new.cell c.args.event c.args.cause.pass c.args.cause.origin.call t.step t.last taken c.in-Ok.receipt c.in-Ok.ensures.receipt old.waiting new.waiting c.in-Ok.calls c.in-Ok.ensures.calls in
     elim c.match-entry.branch [
       | in-Opened-1 w ↦ rw w.self-is replied
       | in-Called-1 w ↦ rw w.self-is replied
       | in-AtNode-1 w ↦ rw w.self-is replied
       | in-AtMaster-1 w ↦ rw w.self-is replied
+      | in-Withdrawn-1 w ↦ rw w.self-is replied
     ]

@@ -12,6 +12,7 @@ invariant_of-self g c =
     let own = subst (λ (a : Author). of author_of a c.learn_both.new.writer.seen ≡ of author_of a s.writer.seen) c.self.invariant.author c.learn_both.ensures.own in
     record {
       author = c.learn_both.ensures.author ∙ c.self.invariant.author;
+      permits = c.learn_both.ensures.next ∙ c.self.invariant.permits;
       fresh = fresh_later s.client s.next s.writer.seen c.learn_both.new.writer.seen (sym own) c.self.invariant.fresh;
     }
 

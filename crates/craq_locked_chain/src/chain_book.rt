@@ -13,6 +13,7 @@ ghost use Rattle.craq_seat.specs.Taken.{TakesTransition};
 ghost use Rattle.craq_sending.specs.Sent.{AreSentAs};
 ghost use Rattle.craq_store_history.specs.Entries.{lines_in, members_in};
 ghost use Rattle.craq_store_parts.specs.Recorded.{IsUnmoved};
+ghost use Rattle.craq_store_parts.specs.Witnessed.{IsWitnessedOrder};
 
 use craq_ghost_history::Named;
 use craq_names::{NodeId, Pass, Refusal};
@@ -64,36 +65,39 @@ impl<N: Named> ChainBook<N> {
     }
 
     /// Takes one step of the master, exactly as `BookCell::take` does, and adds it to the history,
-    /// after all that the token has seen.
+    /// after all that the token has seen. Returns also a token that has seen the step.
     pub fn take(
         &mut self,
         alloc: Global,
         history: &StoreHistory<N>,
         event: BookEvent,
         token: StoreToken<N>,
-    ) -> Result<Receipt, Refusal>
+    ) -> Result<(Receipt, StoreToken<N>), Refusal>
         requires { IsOfStopped (lines_in self.old.opening.name.chain token) event }
-        ensures step { TakesTransition self.old self.new event 0 result }
+        ensures step { TakesTransition self.old self.new event 0 (receipt_in result) }
         ensures kept { IsBook self.new }
         ensures opening { self.new.opening ≡ self.old.opening }
+        ensures ordered { IfOk result (λ r. IsWitnessedOrder token self.old.opening.name.chain event r.0 r.1) }
     {
         self.book.take(alloc, history, event, Pass::start(), token)
     }
 
-    /// Lets a node join, exactly as `BookCell::take` does. Returns also the node, with a token of its
-    /// join.
+    /// Lets a node join, exactly as `BookCell::take` does, after all that the token has seen. Returns
+    /// also the node, and a token that has seen the step.
     pub fn join(
         &mut self,
         alloc: Global,
         history: &StoreHistory<N>,
         node: NodeId,
-    ) -> Result<(Receipt, JoinedNode<N>), Refusal>
+        token: StoreToken<N>,
+    ) -> Result<(Receipt, (JoinedNode<N>, StoreToken<N>)), Refusal>
         ensures step { TakesTransition self.old self.new (BookEvent.Join node) 0 (receipt_in result) }
         ensures kept { IsBook self.new }
         ensures opening { self.new.opening ≡ self.old.opening }
-        ensures joined { IfOk result (λ r. r.1 ≡ record { chain = self.old.opening.name.chain; node = node }) }
+        ensures joined { IfOk result (λ r. r.1.0 ≡ record { chain = self.old.opening.name.chain; node = node }) }
+        ensures ordered { IfOk result (λ r. IsWitnessedOrder token self.old.opening.name.chain (BookEvent.Join node) r.0 r.1.1) }
     {
-        self.book.join(alloc, history, node)
+        self.book.join(alloc, history, node, token)
     }
 
     /// Takes the step of a tick, and returns what it sends, or `None` if the step is refused.

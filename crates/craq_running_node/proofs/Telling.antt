@@ -19,7 +19,7 @@ use Rattle.craq_seat.specs.declared.seat.Caller.{Caller}
 use Rattle.craq_store_history.specs.declared.entry.CallId.{CallId}
 use Rattle.craq_store_parts.specs.Recorded.{Accepted, accepted_under}
 use Rattle.craq_running_node.specs.declared.steps.SeatedNode.{SeatedNode}
-use Rattle.craq_running_node.specs.Replies.{AreSomeOf, HasInHand, IsReplyTo, Keeps, PendingReplies, Reply, caller_under, is_own, others_of, own_receipt, replies_to, reply_to, said_by, said_to, Steps, TellsCallers, Waits, ticket_in, ticket_of, waiting_after, without_caller}
+use Rattle.craq_running_node.specs.Replies.{AreSomeOf, HasInHand, IsReplyTo, Keeps, PendingReplies, Reply, caller_under, is_own, others_of, own_receipt, recipient_of, replies_to, reply_to, said_by, said_to, Steps, TellsCallers, Waits, ticket_in, ticket_of, waiting_after, waits_as, without_caller}
 
 abbrev pub Outcomes : Type 0
 Outcomes = List (ℕ × Result Called Refusal)
@@ -115,21 +115,18 @@ pub left_waits : (first now : List (Caller Token)) (before after : PendingReplie
 left_waits first now before after all (done, replied, kept, waits) = waits
 
 -- the own receipt is the last one of these, if any is, else the one before them
-abbrev pub Owns : Option ℕ → Option (Result Called Refusal) → List Called → List Called → Type 0
-Owns ticket own all rest = (o : Option Called) × (own ≡ option_map Ok o) × (last_or o (filter (is_own ticket) rest) ≡ own_receipt ticket all)
+abbrev pub Owns : Option ℕ → Option Called → List Called → List Called → Type 0
+Owns ticket own all rest = last_or own (filter (is_own ticket) rest) ≡ own_receipt ticket all
 
 pub owns_first : (ticket : Option ℕ) (all : List Called) → Owns ticket None all all
-owns_first ticket all = (None, refl, refl)
-
-pub owns_last : (ticket : Option ℕ) (own : Option (Result Called Refusal)) (all : List Called) → Owns ticket own all [] → own ≡ option_map Ok (own_receipt ticket all)
-owns_last ticket own all (o, is, last) = is ∙ ap (λ (p : Option Called). option_map Ok p) last
+owns_first ticket all = refl
 
 -- of a receipt more: it is the own one, or another caller's
-pub owns_this : (ticket : Option ℕ) (own : Option (Result Called Refusal)) (all rest : List Called) (r : Called) → is_own ticket r ≡ true → Owns ticket own all (r ∷ rest) → Owns ticket (Some (Ok r)) all rest
-owns_this ticket own all rest r mine (o, is, last) = (Some r, refl, grind (arith, mine, last))
+pub owns_this : (ticket : Option ℕ) (own : Option Called) (all rest : List Called) (r : Called) → is_own ticket r ≡ true → Owns ticket own all (r ∷ rest) → Owns ticket (Some r) all rest
+owns_this ticket own all rest r mine last = grind (arith, mine, last)
 
-pub owns_other : (ticket : Option ℕ) (own : Option (Result Called Refusal)) (all rest : List Called) (r : Called) → is_own ticket r ≡ false → Owns ticket own all (r ∷ rest) → Owns ticket own all rest
-owns_other ticket own all rest r theirs (o, is, last) = (o, is, grind (arith, theirs, last))
+pub owns_other : (ticket : Option ℕ) (own : Option Called) (all rest : List Called) (r : Called) → is_own ticket r ≡ false → Owns ticket own all (r ∷ rest) → Owns ticket own all rest
+owns_other ticket own all rest r theirs last = grind (arith, theirs, last)
 
 pub others_without : (ticket : Option ℕ) (rest : List Called) (r : Called) → is_own ticket r ≡ true → others_of ticket (r ∷ rest) ≡ others_of ticket rest
 others_without ticket rest r mine = grind (arith, mine)
@@ -199,21 +196,28 @@ says_it own ticket calls reply same says =
     subst (λ (t : Option ℕ). IfSome reply (λ (o : Result Called Refusal). IsReplyTo t o)) same
     (subst (λ (r : Option (Result Called Refusal)). IfSome r (λ (o : Result Called Refusal). IsReplyTo own o)) (sym says) (says_own own calls))
 
--- the outcome is in hand
-pub in_hand : (token : Token) (ticket : Option ℕ) (said : Option (Result Called Refusal)) (o : Result Called Refusal) (callers : List (Caller Token)) (replies : PendingReplies) → said ≡ Some o → HasInHand token ticket said (Some o) callers callers replies replies
-in_hand token ticket said o callers replies is =
-    subst (λ (r : Option (Result Called Refusal)). HasInHand token ticket r (Some o) callers callers replies replies) (sym is) (refl, refl, refl)
+-- the outcome that a caller has in hand after the step of its request, under the ticket of the step
+pub hand_after : (token : Token) (ticket now : Option ℕ) (calls : Result (Vec Called Global) AllocError) (reply hand : Option (Result Called Refusal)) (old new : List (Caller Token)) (before after : PendingReplies)
+    → ticket ≡ now → reply ≡ said_to ticket calls → HasInHand token ticket reply hand old new before after → HasInHand token now (said_to now calls) hand old new before after
+hand_after token ticket now calls reply hand old new before after same says has =
+    subst (λ (t : Option ℕ). HasInHand token t (said_to t calls) hand old new before after) same
+    (subst (λ (r : Option (Result Called Refusal)). HasInHand token ticket r hand old new before after) says has)
 
-expects_now : (token : Token) (ticket : Option ℕ) (hand : Option (Result Called Refusal)) (old new : List (Caller Token)) (before after : PendingReplies)
-    → (hand ≡ None → Waits token ticket old new before after) → IfSome hand (λ (o : Result Called Refusal). (o ≡ Err refusals.Memory) × (new ≡ old) × (after ≡ before)) → HasInHand token ticket None hand old new before after
-expects_now token ticket None old new before after waits reported = waits refl
-expects_now token ticket (Some o) old new before after waits reported = reported
+-- a caller waits behind the others
+pub waits_behind : (token : Token) (accepted : Option Accepted) (a : Accepted) (old new : List (Caller Token)) (caller : Caller Token) (replies : PendingReplies)
+    → accepted ≡ Some a → caller ≡ waits_as a.ticket token → new ≡ old ++ caller ∷ [] → Waits token (ticket_in accepted) old new replies replies
+waits_behind token accepted a old new caller replies is made behind =
+    subst (λ (o : Option Accepted). Waits token (ticket_in o) old new replies replies) (sym is) (inl (behind ∙ ap (λ (c : Caller Token). old ++ c ∷ []) made, refl))
 
--- without an outcome the caller waits, or has the refusal in hand that there is no room
-pub expects : (token : Token) (ticket : Option ℕ) (said hand : Option (Result Called Refusal)) (old new : List (Caller Token)) (before after : PendingReplies)
-    → said ≡ None → (hand ≡ None → Waits token ticket old new before after) → IfSome hand (λ (o : Result Called Refusal). (o ≡ Err refusals.Memory) × (new ≡ old) × (after ≡ before)) → HasInHand token ticket said hand old new before after
-expects token ticket said hand old new before after is waits reported =
-    subst (λ (r : Option (Result Called Refusal)). HasInHand token ticket r hand old new before after) (sym is) (expects_now token ticket hand old new before after waits reported)
+abbrev pub without_room : Caller Token → Reply
+without_room caller = record { to = recipient_of caller; outcome = Err refusals.Memory }
+
+-- there is no room to wait, and it is refused
+pub waits_nowhere : (token : Token) (accepted : Option Accepted) (a : Accepted) (old new : List (Caller Token)) (caller back : Caller Token) (reply : Reply) (before after : PendingReplies)
+    → accepted ≡ Some a → caller ≡ waits_as a.ticket token → back ≡ caller → reply ≡ without_room back → new ≡ old → Keeps before (reply ∷ []) after → Waits token (ticket_in accepted) old new before after
+waits_nowhere token accepted a old new caller back reply before after is made given so same kept =
+    let to : reply ≡ without_room (waits_as a.ticket token) = so ∙ ap without_room (given ∙ made) in
+    subst (λ (o : Option Accepted). Waits token (ticket_in o) old new before after) (sym is) (inr (same, subst (λ (r : Reply). Keeps before (r ∷ []) after) to kept))
 
 under_ticket : (name : NodeName) (call : CallId) (ticket : Option ℕ) → ticket_in (accepted_under name (Some call) ticket) ≡ ticket
 under_ticket name call None = refl

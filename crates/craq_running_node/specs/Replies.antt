@@ -24,8 +24,8 @@ use Rattle.craq_seat.specs.declared.seat.Caller.{Caller}
 use Rattle.craq_store_parts.specs.Recorded.{Accepted}
 use Rattle.craq_running_node.specs.declared.steps.SeatedNode.{SeatedNode}
 
--- a caller: the token of its completion, and the ticket of its request once a node has accepted it
-pub record Asked : Type 0 where
+-- the caller to whom a reply goes: the token of its completion, and the ticket of its request once a node has accepted it
+pub record Recipient : Type 0 where
   pub ticket : Option ℕ
   pub token : Token
 
@@ -35,7 +35,7 @@ ticket_in accepted = option_map (λ (a : Accepted). a.ticket) accepted
 
 -- a reply on its way
 pub record Reply : Type 0 where
-  pub to : Asked
+  pub to : Recipient
   pub outcome : Result Called Refusal
 
 -- a receipt is of the call under the caller's ticket; any caller may be refused
@@ -48,8 +48,8 @@ abbrev pub waits_as : ℕ → Token → Caller Token
 waits_as ticket token = record { ticket = ticket; at = token }
 
 -- that caller, once a reply is due to it
-abbrev pub asked_by : Caller Token → Asked
-asked_by caller = record { ticket = Some caller.ticket; token = caller.at }
+abbrev pub recipient_of : Caller Token → Recipient
+recipient_of caller = record { ticket = Some caller.ticket; token = caller.at }
 
 -- the first caller that waits under a ticket
 abbrev pub caller_under : List (Caller Token) → ℕ → Option (Caller Token)
@@ -62,7 +62,7 @@ without_caller callers ticket = remove_key (λ (caller : Caller Token). caller.t
 -- the reply to a caller, if there is one
 abbrev pub reply_to : Option (Caller Token) → Result Called Refusal → List Reply
 reply_to None outcome = []
-reply_to (Some caller) outcome = record { to = asked_by caller; outcome = outcome } ∷ []
+reply_to (Some caller) outcome = record { to = recipient_of caller; outcome = outcome } ∷ []
 
 -- outcomes by their tickets: each goes to the first caller that waits under its ticket, which then waits no more. The replies
 abbrev pub replies_to : List (Caller Token) → List (ℕ × Result Called Refusal) → List Reply
@@ -126,7 +126,7 @@ said_to ticket (Ok receipts) = option_map Ok (own_receipt ticket receipts.items)
 said_to ticket (Err e) = Some (Err refusals.Memory)
 
 -- a caller gets this outcome, and the others wait as before
-abbrev pub IsReported : Asked → Result Called Refusal → List (Caller Token) → List (Caller Token) → PendingReplies → PendingReplies → Type 0
+abbrev pub IsReported : Recipient → Result Called Refusal → List (Caller Token) → List (Caller Token) → PendingReplies → PendingReplies → Type 0
 IsReported caller outcome old new before after = (new ≡ old) × Keeps before (record { to = caller; outcome = outcome } ∷ []) after
 
 -- a caller waits behind the others under this ticket, and nobody gets a reply; without room or ticket, it is refused
@@ -140,6 +140,11 @@ Waits token (Some ticket) old new before after =
 abbrev pub Settles : Token → Option ℕ → Option (Result Called Refusal) → List (Caller Token) → List (Caller Token) → PendingReplies → PendingReplies → Type 0
 Settles token ticket (Some outcome) old new before after = IsReported (record { ticket = ticket; token = token }) outcome old new before after
 Settles token ticket None old new before after = Waits token ticket old new before after
+
+-- the outcome that a caller has in hand: a receipt, a refusal, or none if a completion will come
+abbrev pub in_hand : Result (Option Called) Refusal → Option (Result Called Refusal)
+in_hand (Ok receipt) = option_map Ok receipt
+in_hand (Err e) = Some (Err e)
 
 -- a caller that took the step of its own request has the outcome in hand if there is one; else it waits, or has a refusal in hand
 abbrev pub HasInHand : Token → Option ℕ → Option (Result Called Refusal) → Option (Result Called Refusal) → List (Caller Token) → List (Caller Token) → PendingReplies → PendingReplies → Type 0

@@ -1,11 +1,12 @@
-//! `PendingCaller`, `WaitingCaller` and `ReadyReply`: a caller that waits at a node, one that waits
-//! for a reply, and a reply with its caller; for `replies` and `steps`.
-ghost use Rattle.std.specs.Prelude.{◌≡◌, None, Some, IfErr, IfOk, option_map};
-ghost use Rattle.craq_running_node.specs.Replies.{IsReplyTo, asked_by, ticket_in};
+//! `PendingCaller` and `ReadyReply`: a caller that waits at a node, and a reply on its way to its
+//! caller; for `replies` and `steps`.
+ghost use Rattle.std.specs.Prelude.{◌≡◌, Err, None, Ok, Some, option_map};
+ghost use Rattle.craq_running_node.specs.Replies.{IsReplyTo, recipient_of, ticket_in};
 
+use crate::call_refusal::CallRefusal;
 use craq_completions::CompletionSender;
 use craq_ghost_history::Named;
-use craq_names::{Refusal, Ticket};
+use craq_names::Ticket;
 use craq_seat::Ticketed;
 use craq_store_parts::{AcceptedCall, AnsweredCall, StepReceipt};
 use std::marker::Model;
@@ -13,10 +14,13 @@ use std::sync::Wait;
 
 /// The outcome of a call: its reply with the call that its node accepted, or the refusal. A
 /// contract sees the receipt of the reply.
-pub type Outcome<N> = Result<AnsweredCall<N>, Refusal>;
+pub type Outcome<N> = Result<AnsweredCall<N>, CallRefusal<N>>;
+
+/// The reply that the caller of a step has in hand, or `None` if a completion will come.
+pub type OwnReply<N> = Result<Option<AnsweredCall<N>>, CallRefusal<N>>;
 
 /// The outcome of a step for one of its callers: the receipt of the reply, or the refusal.
-pub(crate) type StepOutcome<N> = Result<StepReceipt<N>, Refusal>;
+pub(crate) type StepOutcome<N> = Result<StepReceipt<N>, CallRefusal<N>>;
 
 /// A caller that waits at a node: the call that the node accepted, and the place of its completion.
 /// A contract sees the ticket and the token.
@@ -43,60 +47,40 @@ impl<N: Named> Ticketed for PendingCaller<N> {
     }
 }
 
-/// A caller that has asked and is neither answered nor waiting: the place of its completion, and
-/// its call once a node has accepted it. It has no drop, so each caller is answered or waits. A
-/// contract sees the ticket and the token.
-pub(crate) struct WaitingCaller<N: Named> {
+impl<N: Named> PendingCaller<N> {
+    /// Makes the caller of a call that a node accepted.
+    pub(crate) fn new(accepted: AcceptedCall<N>, at: CompletionSender<Outcome<N>>) -> Self
+        ensures { result ≡ record { ticket = accepted.ticket; at = at } }
+    {
+        PendingCaller { accepted, at }
+    }
+
+    /// Makes the reply to this caller, which waits no more.
+    pub(crate) fn reply(self, outcome: StepOutcome<N>) -> ReadyReply<N>
+        requires { IsReplyTo (Some self.ticket) outcome }
+        ensures { result ≡ record { to = recipient_of self; outcome = outcome } }
+    {
+        let PendingCaller { accepted, at } = self;
+        ReadyReply::new(Some(accepted), at, outcome)
+    }
+}
+
+/// Joins a receipt with the call of the caller to whom it goes.
+pub(crate) fn joined<N: Named>(
     accepted: Option<AcceptedCall<N>>,
-    at: CompletionSender<Outcome<N>>,
-}
-
-impl<N: Named> Model for WaitingCaller<N> {
-    ghost use Rattle.craq_running_node.specs.Replies.{Asked, ticket_in};
-
-    ghost Value = { Asked };
-
-    ghost view = { λ u. record { ticket = ticket_in u.accepted; token = u.at } };
-}
-
-impl<N: Named> WaitingCaller<N> {
-    /// Makes the caller of a request, with its call if a node has accepted it.
-    pub(crate) fn of(accepted: Option<AcceptedCall<N>>, at: CompletionSender<Outcome<N>>) -> Self
-        ensures { result ≡ record { ticket = ticket_in accepted; token = at } }
-    {
-        WaitingCaller { accepted, at }
-    }
-
-    /// Makes the caller of one that waited.
-    pub(crate) fn waited(caller: PendingCaller<N>) -> Self
-        ensures { result ≡ asked_by caller }
-    {
-        let PendingCaller { accepted, at } = caller;
-        WaitingCaller {
-            accepted: Some(accepted),
-            at,
-        }
-    }
-
-    /// Returns the caller as one that waits at the node, or gives it back if no node has accepted
-    /// its call.
-    pub(crate) fn pending(self) -> Result<PendingCaller<N>, WaitingCaller<N>>
-        ensures waits { IfOk result (λ p. self ≡ asked_by p) }
-        ensures back { IfErr result (λ u. (u ≡ self) × (self.ticket ≡ None)) }
-    {
-        let WaitingCaller { accepted, at } = self;
-        match accepted {
-            Some(accepted) => Ok(PendingCaller { accepted, at }),
-            None => Err(WaitingCaller { accepted: None, at }),
-        }
+    receipt: StepReceipt<N>,
+) -> AnsweredCall<N>
+    requires { IsReplyTo (ticket_in accepted) (Ok receipt) }
+    ensures { result ≡ receipt }
+{
+    match accepted {
+        Some(accepted) => AnsweredCall::new(accepted, receipt),
+        None => unreachable!(),
     }
 }
 
 /// Returns the outcome of a call that a node accepted.
-pub(crate) fn outcome_of<N: Named>(
-    accepted: Option<AcceptedCall<N>>,
-    outcome: StepOutcome<N>,
-) -> Outcome<N>
+fn outcome_of<N: Named>(accepted: Option<AcceptedCall<N>>, outcome: StepOutcome<N>) -> Outcome<N>
     requires { IsReplyTo (ticket_in accepted) outcome }
     ensures { result ≡ outcome }
 {
@@ -105,10 +89,7 @@ pub(crate) fn outcome_of<N: Named>(
             drop(accepted);
             Err(refusal)
         }
-        Ok(receipt) => match accepted {
-            Some(accepted) => Ok(AnsweredCall::new(accepted, receipt)),
-            None => unreachable!(),
-        },
+        Ok(receipt) => Ok(joined(accepted, receipt)),
     }
 }
 
@@ -131,17 +112,31 @@ impl<N: Named> Model for ReadyReply<N> {
 }
 
 impl<N: Named> ReadyReply<N> {
-    /// Makes the reply to this caller.
-    pub(crate) fn new(caller: WaitingCaller<N>, outcome: StepOutcome<N>) -> Self
-        requires { IsReplyTo caller.ticket outcome }
-        ensures { result ≡ record { to = caller; outcome = outcome } }
+    /// Makes the reply to a caller, with its call if a node has accepted it.
+    pub(crate) fn new(
+        accepted: Option<AcceptedCall<N>>,
+        at: CompletionSender<Outcome<N>>,
+        outcome: StepOutcome<N>,
+    ) -> Self
+        requires { IsReplyTo (ticket_in accepted) outcome }
+        ensures { result ≡ record { to = record { ticket = ticket_in accepted; token = at }; outcome = outcome } }
     {
-        let WaitingCaller { accepted, at } = caller;
         let ticket = accepted_ticket(&accepted);
         ReadyReply {
             ticket,
             at,
             outcome: outcome_of(accepted, outcome),
+        }
+    }
+
+    /// Makes the refusal of a caller whose call no node has accepted.
+    pub(crate) fn refused(at: CompletionSender<Outcome<N>>, refusal: CallRefusal<N>) -> Self
+        ensures { result ≡ record { to = record { ticket = None; token = at }; outcome = Err refusal } }
+    {
+        ReadyReply {
+            ticket: None,
+            at,
+            outcome: Err(refusal),
         }
     }
 

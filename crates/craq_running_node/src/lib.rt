@@ -4,6 +4,8 @@
 //! Code that runs in the programs.
 #![tactic(auto)]
 
+mod asked;
+mod call_refusal;
 mod callers;
 mod gate;
 mod losses;
@@ -12,13 +14,15 @@ mod pending;
 mod replies;
 mod steps;
 
-pub use callers::{Outcome, PendingCaller};
+pub use asked::{Asked, Destination, OwnAsk, QueuedAsk, refuse_own};
+pub use call_refusal::CallRefusal;
+pub use callers::{Outcome, OwnReply, PendingCaller};
 pub use gate::{Gate, OpenGate, Work};
 pub use losses::Losses;
-pub use node::{Delivery, Entrances, Queues, Route, RunningNode, Waiting};
+pub use node::{Delivery, Entrances, Queues, Removed, Route, RunningNode, Waiting};
 pub use pending::Pending;
 pub use replies::{Replies, refuse_callers};
 pub use steps::{
-    Arrival, AskingCaller, OwnAsk, QueuedAsk, SeatedNode, dismiss, entries_of, lone_entry_of,
-    messages_of, messages_of_book, owed_by, refuse_asked, take_event, take_own, take_queued,
+    Arrival, SeatedNode, dismiss, entries_of, lone_entry_of, messages_of, messages_of_book,
+    owed_by, refuse_asked, take_event, take_own, take_queued,
 };

@@ -3,9 +3,10 @@
 ghost use Rattle.std.specs.Prelude.{◌≡◌, ◌⊎◌};
 ghost use Rattle.craq_running_node.specs.Routes.{WaitsAs, retired};
 
+use crate::asked::QueuedAsk;
 use crate::losses::Losses;
 use crate::pending::Pending;
-use crate::steps::{QueuedAsk, SeatedNode};
+use crate::steps::SeatedNode;
 use craq_ghost_history::Named;
 use craq_names::{NodeId, NodeName};
 use craq_node::Core;
@@ -117,12 +118,6 @@ impl<C: Core + Named> RunningNode<C> {
         self.seat.wait(rt).lock(rt)
     }
 
-    /// Locks the node until the guard is dropped; returns `None` if another thread holds the lock
-    /// now, or the node is not open. Never allocates.
-    pub fn try_lock(&self) -> Option<MutexGuard<'_, SeatedNode<C>>> {
-        self.seat.get()?.try_lock()
-    }
-
     /// Returns the proof that the node has stopped, with the receipt of the step in which it did,
     /// or `None` if it runs.
     pub fn stopped<R: Wait>(&self, rt: &R, history: &StoreHistory<C>) -> Option<StoppedNode<C>> {
@@ -206,6 +201,15 @@ pub struct Entrances<C: Core + Named> {
     pub links: Sender<Waiting<C>>,
 }
 
+/// The part of a removed node that its chain keeps.
+#[derive(Clone, Copy)]
+pub enum Removed {
+    /// The node: an audit will merge its journal.
+    Kept,
+    /// Nothing.
+    Dropped,
+}
+
 /// The routing entry of a node: the node, and the senders of its queues.
 ///
 /// A removed node has no senders, so its workers end. It is kept only if an audit has to merge its
@@ -218,15 +222,16 @@ pub struct Route<C: Core + Named> {
 }
 
 impl<C: Core + Named> Route<C> {
-    /// Drops the senders if this is the entry of the node of this id, and the node too unless
-    /// `keep` is set.
-    pub fn retire(&mut self, id: NodeId, keep: bool)
-        ensures { self.new ≡ retired id keep self.old }
+    /// Drops the senders if this is the entry of the node of this id, and the node too unless it is
+    /// kept.
+    pub fn retire(&mut self, id: NodeId, removed: Removed)
+        ensures { self.new ≡ retired id removed self.old }
     {
         if self.name.node == id {
-            self.entrances = None;
-            if !keep {
-                self.node = None;
+            drop(self.entrances.take());
+            match removed {
+                Removed::Kept => (),
+                Removed::Dropped => drop(self.node.take()),
             }
         }
     }

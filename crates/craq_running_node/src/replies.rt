@@ -3,7 +3,8 @@
 ghost use Rattle.std.specs.Prelude.{◌≡◌, ◌++◌, ◌∷◌, [], None, Some, IfSome, IsTrue, false};
 ghost use Rattle.craq_running_node.specs.Replies.{IsReplyTo, Keeps, caller_under, reply_to, without_caller};
 
-use crate::callers::{PendingCaller, ReadyReply, StepOutcome, WaitingCaller};
+use crate::call_refusal::CallRefusal;
+use crate::callers::{PendingCaller, ReadyReply, StepOutcome};
 use craq_ghost_history::Named;
 use craq_names::{Refusal, Ticket};
 use craq_seat::TicketQueue;
@@ -71,12 +72,11 @@ impl<N: Named> Replies<N> {
     }
 
     /// Adds a reply. If there is no room for it, sends it at once.
-    pub(crate) fn add<R: Wait>(&mut self, rt: &R, caller: WaitingCaller<N>, outcome: StepOutcome<N>)
-        requires { IsReplyTo caller.ticket outcome }
-        ensures { Keeps self.old (record { to = caller; outcome = outcome } ∷ []) self.new }
+    pub(crate) fn add<R: Wait>(&mut self, rt: &R, reply: ReadyReply<N>)
+        ensures { Keeps self.old (reply ∷ []) self.new }
     {
         self.make_room();
-        if let Some(reported) = self.keep(ReadyReply::new(caller, outcome)) {
+        if let Some(reported) = self.keep(reply) {
             reported.tell(rt);
         }
     }
@@ -95,7 +95,7 @@ impl<N: Named> Replies<N> {
         ensures others { callers.new.items ≡ without_caller callers.old.items ticket }
     {
         match callers.take(ticket) {
-            Some(caller) => self.add(rt, WaitingCaller::waited(caller), outcome),
+            Some(caller) => self.add(rt, caller.reply(outcome)),
             None => drop(outcome),
         }
     }
@@ -120,7 +120,7 @@ pub fn refuse_callers<R: Wait, N: Named>(
 ) {
     let mut replies = Replies::<N>::new(alloc);
     for caller in callers {
-        replies.add(rt, WaitingCaller::waited(caller), Err(*refusal));
+        replies.add(rt, caller.reply(Err(CallRefusal::without_call(*refusal))));
     }
     replies.tell(rt);
 }

@@ -1,7 +1,7 @@
 //! Steps of a node whose seat is locked: of a request or another event, with the replies of the
 //! step; and the messages of the last step. Called by `craq_running_chain`'s batches and by
 //! `craq_workers`, under the lock.
-ghost use Rattle.std.specs.Prelude.{◌≡◌, ◌∷◌, ◌⊎◌, ◌↔◌, [], None, Some, Err, Ok, IfErr, IfOk, IfSome, IsNone, IsTrue, OnErr, Result, Vec, List, ℕ, false, option_map};
+ghost use Rattle.std.specs.Prelude.{◌≡◌, ◌∷◌, ◌⊎◌, ◌↔◌, [], None, Some, Err, Ok, IfErr, IfOk, IfSome, IsNone, IsTrue, OnErr, OnOk, Result, Vec, List, ℕ, false, option_map};
 ghost use Rattle.std.specs.Option.{option_copied};
 ghost use Rattle.std.specs.declared.alloc.AllocError.{AllocError};
 ghost use Rattle.std.specs.declared.alloc.Global.{Global};
@@ -14,12 +14,14 @@ ghost use Rattle.craq_store_parts.specs.Recorded.{HaveReplied, MayHappen};
 ghost use Rattle.craq_seat.specs.Numbered.{CanBeSent, numbered_from};
 ghost use Rattle.craq_sending.specs.declared.sending.Kind.TheVariants as kinds;
 ghost use Rattle.craq_sending.specs.Sent.{AreSentAs, OnlySends, entries_from, lone_position};
-ghost use Rattle.craq_running_node.specs.Replies.{IsReplyTo, Keeps, RefusesAsked, RefusesOwn, RefusesQueued, RefusesStep, Settles, TakesOwn, TakesQueued, TellsCallers, Waits, is_own, others_of, own_receipt, replies_to, said_by, said_to, ticket_in, ticket_of, waiting_after, without_memory};
+ghost use Rattle.craq_running_node.specs.Replies.{IsReplyTo, Keeps, RefusesAsked, RefusesOwn, RefusesQueued, RefusesStep, Settles, TakesOwn, TakesQueued, TellsCallers, Waits, in_hand, is_own, others_of, own_receipt, replies_to, said_by, said_to, ticket_in, ticket_of, waiting_after, without_memory};
 
-use crate::callers::{Outcome, PendingCaller, StepOutcome, WaitingCaller, outcome_of};
+use crate::asked::{Asked, Destination, OwnAsk, QueuedAsk};
+use crate::call_refusal::CallRefusal;
+use crate::callers::{Outcome, OwnReply, PendingCaller, ReadyReply, joined};
 use crate::losses::Losses;
 use crate::replies::Replies;
-use craq_completions::{CompletionQueue, CompletionSender, Token};
+use craq_completions::CompletionSender;
 use craq_ghost_history::Named;
 use craq_model::{Event, Out, Step};
 use craq_names::{NodeName, Pass, Refusal, Seq, Ticket};
@@ -27,8 +29,8 @@ use craq_node::Core;
 use craq_seat::{BookCell, CallReceipt, Cell, Receipt, TicketQueue};
 use craq_sending::{LoneAck, Sent, encode_entries, encode_sent, lone_entry};
 use craq_store_parts::{
-    AcceptedCall, CallMade, Cause, MadeAsk, Messages, OwedAck, RecordedBook, RecordedDesk,
-    StepCalls, StepReceipt, StoreHistory, StoreToken,
+    AcceptedCall, Cause, MadeAsk, Messages, Origin, OwedAck, RecordedBook, RecordedDesk, StepCalls,
+    StepReceipt, StoreHistory, StoreToken,
 };
 use std::alloc::{AllocError, AllocFailed, Global};
 use std::mem;
@@ -50,39 +52,14 @@ pub struct Arrival<N: Named> {
     pub token: StoreToken<N>,
 }
 
-/// A queued request: the pass that its caller shows, and the place of its completion.
-#[derive(Drop)]
-pub struct QueuedAsk<N: Named> {
-    pub made: MadeAsk<N>,
-    pub pass: Pass,
-    pub caller: CompletionSender<Outcome<N>>,
-}
-
-/// A caller that may take the step of its request itself: the pass that it shows, the way of a
-/// completion, and its load.
-#[derive(Drop)]
-pub struct AskingCaller<'a, N: Named> {
-    pub pass: Pass,
-    /// The queue of a completion.
-    pub completions: &'a Arc<CompletionQueue<Outcome<N>>>,
-    /// The token of that completion.
-    pub token: Token,
-    /// The caller has few requests, and may run the chain's nodes itself.
-    pub light_load: bool,
-}
-
-/// A request with its caller, who may take its step.
-#[derive(Drop)]
-pub struct OwnAsk<'a, N: Named> {
-    pub made: MadeAsk<N>,
-    pub caller: AskingCaller<'a, N>,
-}
+/// The receipt of the step's own request, or `None` if it has no reply yet.
+type OwnReceipt<N> = Result<Option<StepReceipt<N>>, CallRefusal<N>>;
 
 /// The outcome of a request that a node accepted: its call, and the reply if there is one at once.
 #[derive(Drop)]
 struct Taken<N: Named> {
     accepted: Option<AcceptedCall<N>>,
-    reply: Option<StepOutcome<N>>,
+    reply: OwnReceipt<N>,
 }
 
 /// The source of the replies of a step: its node's name, a token that has seen it, and the ticket of
@@ -260,19 +237,22 @@ fn answer<R: Wait, N: Named>(
     receipts: Vec<CallReceipt>,
     answering: &mut Answering<'_, N>,
     replies: &mut Replies<N>,
-) -> Option<StepOutcome<N>>
+) -> Option<StepReceipt<N>>
     requires { HaveReplied answering.old.token answering.old.name receipts.items }
-    ensures own { result ≡ option_map Ok (own_receipt answering.old.ticket receipts.items) }
+    ensures own { result ≡ own_receipt answering.old.ticket receipts.items }
     ensures reported { Keeps replies.old (replies_to callers.old.items (others_of answering.old.ticket receipts.items)) replies.new }
     ensures others { callers.new.items ≡ waiting_after callers.old.items (others_of answering.old.ticket receipts.items) }
 {
+    if receipts.is_empty() {
+        return None;
+    }
     let mut own = None;
     for receipt in receipts {
         let token = answering.token.again(answering.history);
         let reply = StepReceipt::new(receipt, answering.name, token);
         let at = reply.ticket();
         if is_own(&answering.ticket, at) {
-            own = Some(Ok(reply));
+            drop(mem::replace(&mut own, Some(reply)));
         } else {
             replies.add_under(rt, callers, at, Ok(reply));
         }
@@ -303,7 +283,8 @@ fn give_up_step<R: Wait, N: Named>(
     for out in outs {
         match out {
             Out::Answer { ticket, .. } => {
-                replies.add_under(rt, callers, *ticket, Err(Refusal::Memory));
+                let refused = CallRefusal::without_call(Refusal::Memory);
+                replies.add_under(rt, callers, *ticket, Err(refused));
             }
             Out::Send { .. } => (),
         }
@@ -318,20 +299,23 @@ fn finish<R: Wait, C: Core + Named>(
     calls: Result<Vec<CallReceipt>, AllocError>,
     answering: &mut Answering<'_, C>,
     replies: &mut Replies<C>,
-) -> Option<StepOutcome<C>>
+) -> OwnReceipt<C>
     requires { IfOk calls (λ receipts. HaveReplied answering.old.token answering.old.name receipts.items) }
-    ensures own { result ≡ said_to answering.old.ticket calls }
+    ensures own { in_hand result ≡ said_to answering.old.ticket calls }
     ensures reported { Keeps replies.old (replies_to seated.old.callers.items (said_by calls seated.old.desk.cell.last answering.old.ticket)) replies.new }
     ensures others { seated.new.callers.items ≡ waiting_after seated.old.callers.items (said_by calls seated.old.desk.cell.last answering.old.ticket) }
     ensures desk { seated.new.desk ≡ seated.old.desk }
 {
     match calls {
-        Ok(receipts) => answer(rt, &mut seated.callers, receipts, answering, replies),
+        Ok(receipts) => {
+            let own = answer(rt, &mut seated.callers, receipts, answering, replies);
+            Ok(own)
+        }
         Err(_) => {
             if let Some(step) = seated.desk.cell().last() {
                 give_up_step(rt, &mut seated.callers, step.outs.as_slice(), replies);
             }
-            Some(Err(Refusal::Memory))
+            Err(CallRefusal::without_call(Refusal::Memory))
         }
     }
 }
@@ -357,8 +341,7 @@ pub fn take_event<R: Wait, C: Core + Named>(
     let Arrival { event, token } = arrival;
     let cause = Cause {
         pass: Pass::start(),
-        call: None,
-        token,
+        origin: Origin::sent(token),
     };
     match seated.desk.take(alloc, history, event, cause) {
         Ok((_, done)) => {
@@ -381,40 +364,37 @@ pub fn take_event<R: Wait, C: Core + Named>(
     }
 }
 
-/// Takes the step of a request, after making room for its caller. A refused one changes nothing.
+/// Takes the step of a request, after making room for its caller. A refused one changes nothing, and
+/// gives the call back.
 fn take_ask<R: Wait, C: Core + Named>(
     rt: &R,
     history: &StoreHistory<C>,
     seated: &mut SeatedNode<C>,
     asked: (MadeAsk<C>, Pass),
     replies: &mut Replies<C>,
-) -> Result<Taken<C>, Refusal>
-    ensures own { IfOk result (λ taken. IfSome taken.reply (λ reply. IsReplyTo (ticket_in taken.accepted) reply)) }
-    ensures taken { IfOk result (λ taken. (calls : Result (Vec Called Global) AllocError) × TellsCallers C.represents seated.old seated.new.desk seated.new.callers.items (Event.Ask asked.0.ask) asked.1 (ticket_in taken.accepted) calls replies.old replies.new × (taken.reply ≡ said_to (ticket_in taken.accepted) calls)) }
+) -> Result<Taken<C>, CallRefusal<C>>
+    ensures own { IfOk result (λ taken. IfSome (in_hand taken.reply) (λ reply. IsReplyTo (ticket_in taken.accepted) reply)) }
+    ensures taken { IfOk result (λ taken. (calls : Result (Vec Called Global) AllocError) × TellsCallers C.represents seated.old seated.new.desk seated.new.callers.items (Event.Ask asked.0.ask) asked.1 (ticket_in taken.accepted) calls replies.old replies.new × (in_hand taken.reply ≡ said_to (ticket_in taken.accepted) calls)) }
     ensures ticket { IfOk result (λ taken. ticket_in taken.accepted ≡ ticket_of seated.new.desk.cell.last) }
     ensures same { OnErr result ((seated.new.callers.items ≡ seated.old.callers.items) × (replies.new ≡ replies.old)) }
     ensures refused { IfErr result (λ e. RefusesAsked C.represents seated.old.desk seated.new.desk asked.0.name asked.0.ask asked.1 e) }
 {
     let (made, pass) = asked;
     if seated.callers.reserve().is_err() {
-        drop(made);
-        return Err(Refusal::Memory);
+        return Err(CallRefusal::before_step(made, Refusal::Memory));
     }
     let name = seated.desk.cell().opening().name;
     if made.name() != name {
-        drop(made);
-        return Err(Refusal::WrongNode);
+        return Err(CallRefusal::before_step(made, Refusal::WrongNode));
     }
     let alloc = replies.allocator();
     let (ask, made) = made.into_parts();
-    let CallMade { call, token } = made;
     let cause = Cause {
         pass,
-        call: Some(call),
-        token,
+        origin: Origin::called(made),
     };
     match seated.desk.take(alloc, history, Event::Ask(ask), cause) {
-        Err(refusal) => Err(refusal),
+        Err(refused) => Err(CallRefusal::new(refused)),
         Ok((_, done)) => {
             let StepCalls {
                 calls,
@@ -442,19 +422,17 @@ pub fn take_queued<R: Wait, C: Core + Named>(
     asked: QueuedAsk<C>,
     replies: &mut Replies<C>,
 ) -> bool
-    ensures taken { IsTrue result → TakesQueued C.represents seated.old seated.new asked.made.ask asked.pass asked.caller replies.old replies.new }
-    ensures refused { result ≡ false → RefusesQueued C.represents seated.old seated.new asked.made.name asked.made.ask asked.pass asked.caller replies.old replies.new }
+    ensures taken { IsTrue result → TakesQueued C.represents seated.old seated.new asked.made.ask asked.pass asked.at replies.old replies.new }
+    ensures refused { result ≡ false → RefusesQueued C.represents seated.old seated.new asked.made.name asked.made.ask asked.pass asked.at replies.old replies.new }
 {
-    let QueuedAsk { made, pass, caller } = asked;
+    let Asked { made, pass, at } = asked;
     match take_ask(rt, history, seated, (made, pass), replies) {
         Err(refusal) => {
-            replies.add(rt, WaitingCaller::of(None, caller), Err(refusal));
+            replies.add(rt, ReadyReply::refused(at, refusal));
             false
         }
         Ok(taken) => {
-            let Taken { accepted, reply } = taken;
-            let caller = WaitingCaller::of(accepted, caller);
-            settle(rt, &mut seated.callers, caller, reply, replies);
+            settle(rt, &mut seated.callers, taken, at, replies);
             true
         }
     }
@@ -462,31 +440,29 @@ pub fn take_queued<R: Wait, C: Core + Named>(
 
 /// Refuses a queued request with `Closed`: the store is closed.
 pub fn refuse_asked<R: Wait, N: Named>(rt: &R, asked: QueuedAsk<N>, replies: &mut Replies<N>)
-    ensures { Keeps replies.old (record { to = record { ticket = None; token = asked.caller }; outcome = Err Refusal.Closed } ∷ []) replies.new }
+    ensures { Keeps replies.old (record { to = record { ticket = None; token = asked.at }; outcome = Err Refusal.Closed } ∷ []) replies.new }
 {
-    let QueuedAsk {
-        made,
-        pass: _,
-        caller,
-    } = asked;
-    drop(made);
-    replies.add(rt, WaitingCaller::of(None, caller), Err(Refusal::Closed));
+    let Asked { made, pass: _, at } = asked;
+    let refusal = CallRefusal::before_step(made, Refusal::Closed);
+    replies.add(rt, ReadyReply::refused(at, refusal));
 }
 
 /// Adds the reply to the caller of a request that was accepted, or makes the caller wait.
 fn settle<R: Wait, N: Named>(
     rt: &R,
     callers: &mut TicketQueue<PendingCaller<N>>,
-    caller: WaitingCaller<N>,
-    reply: Option<StepOutcome<N>>,
+    taken: Taken<N>,
+    at: CompletionSender<Outcome<N>>,
     replies: &mut Replies<N>,
 )
-    requires { IfSome reply (λ reply. IsReplyTo caller.ticket reply) }
-    ensures { Settles caller.token caller.ticket reply callers.old.items callers.new.items replies.old replies.new }
+    requires { IfSome (in_hand taken.reply) (λ reply. IsReplyTo (ticket_in taken.accepted) reply) }
+    ensures { Settles at (ticket_in taken.accepted) (in_hand taken.reply) callers.old.items callers.new.items replies.old replies.new }
 {
+    let Taken { accepted, reply } = taken;
     match reply {
-        Some(reply) => replies.add(rt, caller, reply),
-        None => wait_at(rt, callers, caller, replies),
+        Err(refusal) => replies.add(rt, ReadyReply::new(accepted, at, Err(refusal))),
+        Ok(Some(receipt)) => replies.add(rt, ReadyReply::new(accepted, at, Ok(receipt))),
+        Ok(None) => wait_at(rt, callers, accepted, at, replies),
     }
 }
 
@@ -495,68 +471,75 @@ fn settle<R: Wait, N: Named>(
 fn wait_at<R: Wait, N: Named>(
     rt: &R,
     callers: &mut TicketQueue<PendingCaller<N>>,
-    caller: WaitingCaller<N>,
+    accepted: Option<AcceptedCall<N>>,
+    at: CompletionSender<Outcome<N>>,
     replies: &mut Replies<N>,
 )
-    ensures { Waits caller.token caller.ticket callers.old.items callers.new.items replies.old replies.new }
+    ensures { Waits at (ticket_in accepted) callers.old.items callers.new.items replies.old replies.new }
 {
-    match caller.pending() {
-        Err(caller) => replies.add(rt, caller, Err(Refusal::Closed)),
-        Ok(pending) => {
-            if let Err(refused) = callers.push(pending) {
+    match accepted {
+        None => {
+            let refusal = CallRefusal::without_call(Refusal::Closed);
+            replies.add(rt, ReadyReply::refused(at, refusal));
+        }
+        Some(accepted) => {
+            if let Err(refused) = callers.push(PendingCaller::new(accepted, at)) {
                 let AllocFailed { value } = refused;
-                replies.add(rt, WaitingCaller::waited(value), Err(Refusal::Memory));
+                let refusal = CallRefusal::without_call(Refusal::Memory);
+                replies.add(rt, value.reply(Err(refusal)));
             }
         }
     }
 }
 
-/// Takes the step of the caller's own request. Returns whether the step was taken, and the reply,
-/// or `None` if a completion will come.
+/// Takes the step of the caller's own request. Returns the reply in hand; the refusal outside is of
+/// a request whose step was not taken.
 pub fn take_own<R: Wait, C: Core + Named>(
     rt: &R,
     history: &StoreHistory<C>,
     seated: &mut SeatedNode<C>,
     own: OwnAsk<'_, C>,
     replies: &mut Replies<C>,
-) -> (bool, Option<Outcome<C>>)
-    ensures taken { IsTrue result.0 → TakesOwn C.represents seated.old seated.new own.entry.made.ask own.entry.caller.pass own.entry.caller.token result.1 replies.old replies.new }
-    ensures refused { result.0 ≡ false → RefusesOwn C.represents seated.old seated.new own.entry.made.name own.entry.made.ask own.entry.caller.pass result.1 replies.old replies.new }
+) -> Result<OwnReply<C>, CallRefusal<C>>
+    ensures taken { IfOk result (λ reply. TakesOwn C.represents seated.old seated.new own.entry.made.ask own.entry.pass own.entry.at.token (in_hand reply) replies.old replies.new) }
+    ensures refused { IfErr result (λ e. RefusesOwn C.represents seated.old seated.new own.entry.made.name own.entry.made.ask own.entry.pass (Some (Err e)) replies.old replies.new) }
 {
-    let OwnAsk { made, caller } = own;
-    match take_ask(rt, history, seated, (made, caller.pass), replies) {
-        Err(refusal) => (false, Some(Err(refusal))),
-        Ok(taken) => {
-            let Taken { accepted, reply } = taken;
-            let hand = match reply {
-                Some(reply) => Some(outcome_of(accepted, reply)),
-                None => expect_completion(rt, &mut seated.callers, accepted, caller, replies),
-            };
-            (true, hand)
+    let Asked { made, pass, at } = own;
+    let Taken { accepted, reply } = take_ask(rt, history, seated, (made, pass), replies)?;
+    match reply {
+        Err(refusal) => {
+            drop(accepted);
+            Ok(Err(refusal))
+        }
+        Ok(Some(receipt)) => Ok(Ok(Some(joined(accepted, receipt)))),
+        Ok(None) => {
+            match expect_completion(rt, &mut seated.callers, accepted, at, replies) {
+                Ok(()) => Ok(Ok(None)),
+                Err(refusal) => Ok(Err(refusal)),
+            }
         }
     }
 }
 
-/// Makes the caller of a call wait for a completion, and returns `None`. Out of memory, returns that
-/// refusal.
+/// Makes the caller of a call wait for a completion. Refused with `Memory` when out of memory.
 fn expect_completion<R: Wait, N: Named>(
     rt: &R,
     callers: &mut TicketQueue<PendingCaller<N>>,
     accepted: Option<AcceptedCall<N>>,
-    asking: AskingCaller<'_, N>,
+    at: Destination<'_, N>,
     replies: &mut Replies<N>,
-) -> Option<Outcome<N>>
-    ensures waits { result ≡ None → Waits asking.entry.token (ticket_in accepted) callers.old.items callers.new.items replies.old replies.new }
-    ensures reported { IfSome result (λ outcome. (outcome ≡ Err Refusal.Memory) × (callers.new.items ≡ callers.old.items) × (replies.new ≡ replies.old)) }
+) -> Result<(), CallRefusal<N>>
+    ensures waits { OnOk result (Waits at.entry.token (ticket_in accepted) callers.old.items callers.new.items replies.old replies.new) }
+    ensures refused { IfErr result (λ e. (e ≡ Refusal.Memory) × (callers.new.items ≡ callers.old.items) × (replies.new ≡ replies.old)) }
 {
-    match CompletionSender::expect(rt, asking.completions, asking.token) {
+    match CompletionSender::expect(rt, at.completions, at.token) {
         Err(_) => {
             drop(accepted);
-            Some(Err(Refusal::Memory))
+            Err(CallRefusal::without_call(Refusal::Memory))
         }
-        Ok(caller) => {
-            wait_at(rt, callers, WaitingCaller::of(accepted, caller), replies);
-            None
+        Ok(sender) => {
+            wait_at(rt, callers, accepted, sender, replies);
+            Ok(())
         }
     }
 }

@@ -24,7 +24,7 @@ loop-out-preserved g c =
           let callers : c.match-out.callers.items ≡ w.add_under.new.callers.items = rw w.callers-is refl in
           let one = subst (λ (o : Out). Left first now before mid said (without_memory (o ∷ rest))) w.in-Answer.is left in
           left_same first w.add_under.new.callers.items c.match-out.callers.items before w.add_under.new.self c.match-out.replies said (without_memory rest) callers w.replies-is
-          (left_next first now w.add_under.new.callers.items before mid w.add_under.new.self said (without_memory rest) w.in-Answer.ticket (Err refusals.Memory) one w.add_under.ensures.others w.add_under.ensures.reported)
+          (left_next first now w.add_under.new.callers.items before mid w.add_under.new.self said (without_memory rest) w.in-Answer.ticket (Err refusals.Memory) one w.add_under.ensures.others (rw w.without_call-refused.ensures at w.add_under.ensures.reported))
       | in-Send w ↦
           let callers : c.match-out.callers.items ≡ now = rw w.callers-is refl in
           left_same first now c.match-out.callers.items before mid c.match-out.replies said (without_memory rest) callers w.replies-is

@@ -19,8 +19,8 @@ returns-in-Ok-clause-taken g c = λ taken. (
       c.finish-none.ensures.desk c.in-Ok.ensures.receipt c.start.ensures (c.in-Ok.ensures.step, c.take.ensures.kept) c.in-Ok.ensures.calls c.finish-none.ensures.others c.finish-none.ensures.reported,
 )
 
-pub returns-in-Err-clause-refused : goal.returns-in-Err-clause-refused
-returns-in-Err-clause-refused g c = λ isnt. (
-  c.in-Err.field-0,
-  (refused g.C.Core.represents c.args.seated.now.desk c.take.new.self c.args.arrival.event c.start.result 0 c.in-Err.field-0 c.start.ensures (c.in-Err.ensures.step, c.take.ensures.kept), c.in-Err.ensures.same),
+pub returns-clause-refused : goal.returns-clause-refused
+returns-clause-refused g c = λ isnt. (
+  c.in-Err.field-0.refusal,
+  (refused g.C.Core.represents c.args.seated.now.desk c.take.new.self c.args.arrival.event c.start.result 0 c.in-Err.field-0.refusal c.start.ensures (c.in-Err.ensures.step, c.take.ensures.kept), c.in-Err.ensures.same),
 )

@@ -1,5 +1,5 @@
 -- A request that is put to a node is served, rejected or queued, by each way into the node.
-use Rattle.std.proofs.Common.{◌≡◌, ◌⊎◌, ℕ, Bool, false, Option, Some, None, option_map, Result, Ok, Err, IfOk, IfErr, IfSome, inl, inr, sym, subst}
+use Rattle.std.proofs.Common.{◌≡◌, ◌⊎◌, ℕ, Bool, false, Option, Some, None, Result, Ok, Err, inl, inr, sym, subst}
 use Rattle.std.specs.Prelude.{MatchResult}
 use Rattle.craq_commands.specs.declared.read_mode.ReadMode.TheVariants as modes
 use Rattle.craq_names.specs.declared.name.NodeName.{NodeName}
@@ -11,24 +11,15 @@ use Rattle.craq_model.specs.declared.ask.Ask.{Ask}
 use Rattle.craq_model.specs.declared.ask.Ask.TheVariants as asks
 use Rattle.craq_model.specs.Plain.{Plain}
 use Rattle.craq_seat.specs.Calls.{Called}
-use Rattle.craq_running_chain.specs.Asks.{IsCalled, IsPut, IsServed, IsRejected, in_hand}
+use Rattle.craq_running_node.specs.Replies.{in_hand}
+use Rattle.craq_running_chain.specs.Asks.{IsPut, IsServed, IsRejected}
 use Rattle.craq_running_chain.specs.Missed.{IsMissed}
 
-served : {C : Type 0} (represents : C → Plain → Type 0) (chain_threads : Bool) (name : NodeName) (ask : Ask) (pass : ℕ) (token : Token) (hand : Option (Result Called Refusal))
+-- a caller that takes the step of its own request is served or rejected
+pub put_at_node : {C : Type 0} (represents : C → Plain → Type 0) (chain_threads : Bool) (name : NodeName) (ask : Ask) (pass : ℕ) (token : Token) (hand : Option (Result Called Refusal))
     → IsServed represents name ask pass token hand ⊎ IsRejected hand → IsPut represents chain_threads name ask pass token hand
-served represents chain_threads name ask pass token hand (inl is) = inl is
-served represents chain_threads name ask pass token hand (inr is) = inr (inl is)
-
-same_hand : (reply : Option (Result Called Refusal)) (result : Result (Option Called) Refusal) → IfOk result (λ (found : Option Called). reply ≡ option_map Ok found) → IfErr result (λ (e : Refusal). reply ≡ Some (Err e)) → reply ≡ in_hand result
-same_hand reply (Ok None) ok err = ok
-same_hand reply (Ok (Some receipt)) ok err = ok
-same_hand reply (Err e) ok err = err
-
--- a caller that has a reply in hand, or waits for a completion, was served or rejected
-pub put_in_hand : {C : Type 0} (represents : C → Plain → Type 0) (chain_threads : Bool) (name : NodeName) (ask : Ask) (pass : ℕ) (token : Token) (reply : Option (Result Called Refusal)) (result : Result (Option Called) Refusal)
-    → IfOk result (λ (found : Option Called). reply ≡ option_map Ok found) → IfErr result (λ (e : Refusal). reply ≡ Some (Err e)) → IsServed represents name ask pass token reply ⊎ IsRejected reply → IsPut represents chain_threads name ask pass token (in_hand result)
-put_in_hand represents chain_threads name ask pass token reply result ok err is =
-    subst (λ (hand : Option (Result Called Refusal)). IsPut represents chain_threads name ask pass token hand) (same_hand reply result ok err) (served represents chain_threads name ask pass token reply is)
+put_at_node represents chain_threads name ask pass token hand (inl is) = inl is
+put_at_node represents chain_threads name ask pass token hand (inr is) = inr (inl is)
 
 -- a request is queued, or rejected
 pub put_in_queue : {C : Type 0} (represents : C → Plain → Type 0) (chain_threads : Bool) (name : NodeName) (ask : Ask) (pass : ℕ) (token : Token) (result : Result (Option Called) Refusal)
@@ -86,31 +77,3 @@ reported_as represents chain_threads name ask pass token came reported same clos
 pub put_reported_as : {C : Type 0} (represents : C → Plain → Type 0) (chain_threads : Bool) (name : NodeName) (ask : Ask) (pass : ℕ) (token : Token) (came reported : Refusal)
     → (CanRefuse ask came → reported ≡ came) → (¬ (CanRefuse ask came) → reported ≡ refusals.Closed) → IsPut represents chain_threads name ask pass token (Some (Err came)) → IsPut represents chain_threads name ask pass token (Some (Err reported))
 put_reported_as represents chain_threads name ask pass token came reported same closed put = reported_as represents chain_threads name ask pass token came reported same closed put (can_or_not ask came)
-
--- a receipt in hand is of a request that was served
-pub taken_in_hand : {C : Type 0} (represents : C → Plain → Type 0) (chain_threads : Bool) (name : NodeName) (ask : Ask) (pass : ℕ) (token : Token) (result : Result (Option Called) Refusal)
-    → IsPut represents chain_threads name ask pass token (in_hand result) → IfOk result (λ (found : Option Called). IfSome found (λ (receipt : Called). IsServed represents name ask pass token (Some (Ok receipt))))
-taken_in_hand represents chain_threads name ask pass token (Ok None) put = tt
-taken_in_hand represents chain_threads name ask pass token (Ok (Some receipt)) (inl is) = is
-taken_in_hand represents chain_threads name ask pass token (Ok (Some receipt)) (inr (inl h)) = absurd h
-taken_in_hand represents chain_threads name ask pass token (Ok (Some receipt)) (inr (inr h)) = absurd h
-taken_in_hand represents chain_threads name ask pass token (Err e) put = tt
-
--- a refusal in hand is of such a request, or there was no node to ask
-pub left_in_hand : {C : Type 0} (represents : C → Plain → Type 0) (chain_threads : Bool) (name : NodeName) (ask : Ask) (pass : ℕ) (token : Token) (result : Result (Option Called) Refusal)
-    → IsPut represents chain_threads name ask pass token (in_hand result)
-    → IfErr result (λ (e : Refusal). (e ≡ refusals.UnknownChain) ⊎ IsServed represents name ask pass token (Some (Err e)) ⊎ IsMissed e)
-left_in_hand represents chain_threads name ask pass token (Ok found) put = tt
-left_in_hand represents chain_threads name ask pass token (Err e) (inl is) = inr (inl is)
-left_in_hand represents chain_threads name ask pass token (Err e) (inr (inl is)) = inr (inr is)
-left_in_hand represents chain_threads name ask pass token (Err e) (inr (inr h)) = absurd h
-
--- a call whose receipt is in hand
-pub called_at_once : {C : Type 0} (represents : C → Plain → Type 0) (chain_threads : Bool) (name : NodeName) (ask : Ask) (pass : ℕ) (token : Token) (found : Option Called) (receipt : Called)
-    → found ≡ Some receipt → IsPut represents chain_threads name ask pass token (in_hand (Ok found)) → IsCalled represents chain_threads name ask pass token (Ok receipt)
-called_at_once represents chain_threads name ask pass token found receipt is put = inl (subst (λ (f : Option Called). IsPut represents chain_threads name ask pass token (in_hand (Ok f))) is put)
-
--- a call that waited for a completion, with any outcome
-pub called_by_completion : {C : Type 0} (represents : C → Plain → Type 0) (chain_threads : Bool) (name : NodeName) (ask : Ask) (pass : ℕ) (token : Token) (found : Option Called) (outcome : Result Called Refusal)
-    → found ≡ None → IsPut represents chain_threads name ask pass token (in_hand (Ok found)) → IsCalled represents chain_threads name ask pass token outcome
-called_by_completion represents chain_threads name ask pass token found outcome is put = inr (subst (λ (f : Option Called). IsPut represents chain_threads name ask pass token (in_hand (Ok f))) is put)

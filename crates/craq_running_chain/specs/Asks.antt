@@ -32,16 +32,6 @@ abbrev pub IsQueued : Bool → Ask → Option (Result Called Refusal) → Type 0
 IsQueued chain_threads ask None = (chain_threads ≡ false) ⊎ IsUpdate ask
 IsQueued chain_threads ask (Some outcome) = ⊥
 
--- the caller has in hand a receipt, a refusal, or nothing if a completion will come
-abbrev pub in_hand : Result (Option Called) Refusal → Option (Result Called Refusal)
-in_hand (Ok None) = None
-in_hand (Ok (Some receipt)) = Some (Ok receipt)
-in_hand (Err e) = Some (Err e)
-
 -- a request was served by a node on the spot, or rejected, or queued
 abbrev pub IsPut : {C : Type 0} → (C → Plain → Type 0) → Bool → NodeName → Ask → ℕ → Token → Option (Result Called Refusal) → Type 0
 IsPut represents chain_threads name ask pass token hand = IsServed represents name ask pass token hand ⊎ IsRejected hand ⊎ IsQueued chain_threads ask hand
-
--- a call has its outcome in hand, or by a completion for which it waited
-abbrev pub IsCalled : {C : Type 0} → (C → Plain → Type 0) → Bool → NodeName → Ask → ℕ → Token → Result Called Refusal → Type 0
-IsCalled represents chain_threads name ask pass token outcome = IsPut represents chain_threads name ask pass token (Some outcome) ⊎ IsPut represents chain_threads name ask pass token None

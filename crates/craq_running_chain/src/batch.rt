@@ -5,7 +5,7 @@ ghost use Rattle.std.specs.Prelude.{◌≡◌, ◌⊎◌, ℕ, [], None, Some, f
 ghost use Rattle.craq_locked_chain.specs.Held.{cell_in};
 ghost use Rattle.craq_node.specs.Represented.{CanArrive};
 ghost use Rattle.craq_running_chain.specs.declared.unsent.Unsent.TheVariants as unsent;
-ghost use Rattle.craq_running_node.specs.Replies.{ClosesOwn, ClosesQueued, ReactsTo, RefusesOwn, RefusesQueued, TakesOwn, TakesQueued};
+ghost use Rattle.craq_running_node.specs.Replies.{ClosesOwn, ClosesQueued, ReactsTo, RefusesOwn, RefusesQueued, TakesOwn, TakesQueued, in_hand};
 ghost use Rattle.craq_store_parts.specs.Recorded.{MayHappen};
 ghost use Rattle.craq_running_chain.specs.Batches.{Hears, HoldsBack, OwesLast, OwesStill, TakesBrought};
 
@@ -16,9 +16,9 @@ use craq_model::Event;
 use craq_names::{Refusal, Seq};
 use craq_node::Core;
 use craq_running_node::{
-    Arrival, Gate, Outcome, OwnAsk, QueuedAsk, Replies, RunningNode, SeatedNode, Waiting,
-    entries_of, lone_entry_of, messages_of, owed_by, refuse_asked, take_event, take_own,
-    take_queued,
+    Arrival, Gate, OwnAsk, OwnReply, QueuedAsk, Replies, RunningNode, SeatedNode, Waiting,
+    entries_of, lone_entry_of, messages_of, owed_by, refuse_asked, refuse_own, take_event,
+    take_own, take_queued,
 };
 use craq_store_parts::{Messages, OwedAck, Wire};
 use std::alloc::Global;
@@ -220,7 +220,7 @@ impl<'a, C: Core + Named, G: Gate> NodeBatch<'a, C, G> {
     /// Takes the step of a queued request. A closed node refuses it with `Closed`, since nobody
     /// would answer it.
     pub(crate) fn take_asked<R: Wait>(&mut self, rt: &R, asked: QueuedAsk<C>)
-        ensures { TakesQueued C.represents (mutex_guard_value self.old.seated) (mutex_guard_value self.new.seated) asked.made.ask asked.pass asked.caller self.old.replies self.new.replies ⊎ RefusesQueued C.represents (mutex_guard_value self.old.seated) (mutex_guard_value self.new.seated) asked.made.name asked.made.ask asked.pass asked.caller self.old.replies self.new.replies ⊎ ClosesQueued (mutex_guard_value self.old.seated) (mutex_guard_value self.new.seated) asked.caller self.old.replies self.new.replies }
+        ensures { TakesQueued C.represents (mutex_guard_value self.old.seated) (mutex_guard_value self.new.seated) asked.made.ask asked.pass asked.at self.old.replies self.new.replies ⊎ RefusesQueued C.represents (mutex_guard_value self.old.seated) (mutex_guard_value self.new.seated) asked.made.name asked.made.ask asked.pass asked.at self.old.replies self.new.replies ⊎ ClosesQueued (mutex_guard_value self.old.seated) (mutex_guard_value self.new.seated) asked.at self.old.replies self.new.replies }
     {
         if self.exit.node.is_closed() {
             refuse_asked(rt, asked, &mut self.replies);
@@ -237,19 +237,20 @@ impl<'a, C: Core + Named, G: Gate> NodeBatch<'a, C, G> {
 
     /// Takes the step of the caller's own request. Returns the reply, or `None` if a completion
     /// will come.
-    pub(crate) fn take_own<R: Wait>(&mut self, rt: &R, own: OwnAsk<'_, C>) -> Option<Outcome<C>>
-        ensures { TakesOwn C.represents (mutex_guard_value self.old.seated) (mutex_guard_value self.new.seated) own.entry.made.ask own.entry.caller.pass own.entry.caller.token result self.old.replies self.new.replies ⊎ RefusesOwn C.represents (mutex_guard_value self.old.seated) (mutex_guard_value self.new.seated) own.entry.made.name own.entry.made.ask own.entry.caller.pass result self.old.replies self.new.replies ⊎ ClosesOwn (mutex_guard_value self.old.seated) (mutex_guard_value self.new.seated) result self.old.replies self.new.replies }
+    pub(crate) fn take_own<R: Wait>(&mut self, rt: &R, own: OwnAsk<'_, C>) -> OwnReply<C>
+        ensures { TakesOwn C.represents (mutex_guard_value self.old.seated) (mutex_guard_value self.new.seated) own.entry.made.ask own.entry.pass own.entry.at.token (in_hand result) self.old.replies self.new.replies ⊎ RefusesOwn C.represents (mutex_guard_value self.old.seated) (mutex_guard_value self.new.seated) own.entry.made.name own.entry.made.ask own.entry.pass (in_hand result) self.old.replies self.new.replies ⊎ ClosesOwn (mutex_guard_value self.old.seated) (mutex_guard_value self.new.seated) (in_hand result) self.old.replies self.new.replies }
     {
         if self.exit.node.is_closed() {
-            drop(own);
-            return Some(Err(Refusal::Closed));
+            return Err(refuse_own(own, Refusal::Closed));
         }
         let history = &self.exit.shared.history;
-        let (taken, reply) = take_own(rt, history, &mut self.seated, own, &mut self.replies);
-        if taken {
-            self.post_step(rt);
+        match take_own(rt, history, &mut self.seated, own, &mut self.replies) {
+            Err(refusal) => Err(refusal),
+            Ok(reply) => {
+                self.post_step(rt);
+                reply
+            }
         }
-        reply
     }
 
     /// Sends what the node's last step sends, after what is owed; or owes it, or holds it back.

@@ -16,7 +16,8 @@ use craq_model::Config;
 use craq_names::{ChainId, NodeId, Refusal, are_same};
 use craq_node::Core;
 use craq_running_node::{
-    Delivery, Entrances, QueuedAsk, Route, RunningNode, dismiss, refuse_callers,
+    Asked, CallRefusal, Delivery, Entrances, QueuedAsk, Removed, Route, RunningNode, dismiss,
+    refuse_callers,
 };
 use craq_seat::Opening;
 use crossbeam_channel::{SendError, Sender};
@@ -90,14 +91,14 @@ impl<C: Core + Named> RoutingTable<C> {
         Err(Refusal::WrongNode)
     }
 
-    /// Drops the senders of the node of this id, and the node too unless `keep` is set. The other
+    /// Drops the senders of the node of this id, and the node too unless it is kept. The other
     /// entries and the parts of an open store stay.
-    fn retire(&mut self, id: NodeId, keep: bool)
-        ensures nodes { self.new.nodes.items ≡ map (retired id keep) self.old.nodes.items }
+    fn retire(&mut self, id: NodeId, removed: Removed)
+        ensures nodes { self.new.nodes.items ≡ map (retired id removed) self.old.nodes.items }
         ensures open { self.new.open ≡ self.old.open }
     {
         for route in self.nodes.iter_mut() {
-            route.retire(id, keep);
+            route.retire(id, removed);
         }
     }
 
@@ -119,7 +120,7 @@ fn put_in<R: Wait, C: Core + Named>(
     rt: &R,
     entrances: &Entrances<C>,
     asked: QueuedAsk<C>,
-) -> Result<(), Refusal>
+) -> Result<(), CallRefusal<C>>
     ensures { IfErr result (λ e. (e ≡ Refusal.Memory) ⊎ (e ≡ Refusal.Closed)) }
 {
     match entrances.asks.send(rt, asked) {
@@ -129,22 +130,17 @@ fn put_in<R: Wait, C: Core + Named>(
     }
 }
 
-/// Takes back a request that was not queued, and returns the refusal: no completion comes.
+/// Takes back a request that was not queued, and refuses its call: no completion comes.
 pub(crate) fn take_back<R: Wait, C: Core + Named>(
     rt: &R,
     asked: QueuedAsk<C>,
     refusal: Refusal,
-) -> Result<(), Refusal>
+) -> Result<(), CallRefusal<C>>
     ensures { result ≡ Err refusal }
 {
-    let QueuedAsk {
-        made,
-        pass: _,
-        caller,
-    } = asked;
-    drop(made);
-    caller.forgo(rt);
-    Err(refusal)
+    let Asked { made, pass: _, at } = asked;
+    at.forgo(rt);
+    Err(CallRefusal::before_step(made, refusal))
 }
 
 /// Returns the members with which a cell was opened, or none if it had no membership.
@@ -188,7 +184,7 @@ impl<C: Core + Named> Chain<C> {
         rt: &R,
         id: NodeId,
         asked: QueuedAsk<C>,
-    ) -> Result<(), Refusal>
+    ) -> Result<(), CallRefusal<C>>
         ensures { IfErr result (λ e. IsMissed e) }
     {
         let routes = self.routes.read(rt);
@@ -290,10 +286,10 @@ impl<C: Core + Named> Chain<C> {
     }
 
     /// Drops the senders of the node of this id, so that its workers end once their queues are
-    /// empty. Drops the node too, unless an audit will need its cell (`keep`).
-    pub fn retire<R: Wait>(&self, rt: &R, id: NodeId, keep: bool) {
+    /// empty. Drops the node too, unless it is kept.
+    pub fn retire<R: Wait>(&self, rt: &R, id: NodeId, removed: Removed) {
         self.rest.end();
-        self.routes.write(rt).retire(id, keep);
+        self.routes.write(rt).retire(id, removed);
     }
 
     /// Lets nothing in from now on. The workers end once their queues are empty. A chain thread
@@ -340,12 +336,7 @@ pub fn refuse_queued<R: Wait, C: Core + Named>(rt: &R, node: &RunningNode<C>, re
         let Ok(asked) = node.queues.asks.try_recv(rt) else {
             break;
         };
-        let QueuedAsk {
-            made,
-            pass: _,
-            caller,
-        } = asked;
-        drop(made);
-        caller.tell(rt, Err(*refusal));
+        let Asked { made, pass: _, at } = asked;
+        at.tell(rt, Err(CallRefusal::before_step(made, *refusal)));
     }
 }

@@ -6,8 +6,8 @@ use crate::shared::{Shared, Wakes};
 use craq_ghost_history::Named;
 use craq_names::{ChainId, Refusal};
 use craq_node::Core;
-use craq_running_node::{Gate, RunningNode, SeatedNode, Work};
-use std::sync::{Arc, MutexGuard, Wait};
+use craq_running_node::{Gate, RunningNode, Work};
+use std::sync::{Arc, Wait};
 
 /// The most messages of one batch of a node. It is well above the number of entry messages of a
 /// round, so that entries do not wait behind the queries of many reads of one object.
@@ -16,8 +16,8 @@ const MESSAGES: u32 = 32;
 /// The most requests of one batch of a node.
 const ASKS: u32 = 8;
 
-/// The most rounds for which a caller carries its own step on.
-const ROUNDS: u32 = 3;
+/// The most rounds that a caller takes in the chain thread's place.
+const ROUNDS: u32 = 8;
 
 /// Takes what waits at a node in a batch: messages first, then requests.
 fn take_waiting<R: Wait, C: Core + Named, G: Gate>(
@@ -39,46 +39,21 @@ fn take_waiting<R: Wait, C: Core + Named, G: Gate>(
     }
 }
 
-/// The way in which a visitor treats a node whose lock another thread has.
-#[derive(Clone, Copy)]
-enum LockMode {
-    /// It waits for the lock.
-    Waits,
-    /// It passes by: that thread may take what waits there, or leave it.
-    PassesBy,
-}
-
-/// Locks a node, or returns `None` if another thread has the lock and the visitor passes by.
-fn seat_of<'a, R: Wait, C: Core + Named>(
-    rt: &R,
-    node: &'a RunningNode<C>,
-    mode: LockMode,
-) -> Option<MutexGuard<'a, SeatedNode<C>>> {
-    match mode {
-        LockMode::Waits => Some(node.lock(rt)),
-        LockMode::PassesBy => node.try_lock(),
-    }
-}
-
-/// Takes a batch of a node, if anything waits there. Returns whether anything did: if the node was
-/// passed by, that may still wait.
+/// Takes a batch of a node, if anything waits there. Returns whether anything did.
 fn visit<R: Wait, C: Core + Named, G: Gate>(
     rt: &R,
     shared: &Shared<C, G>,
     node: &RunningNode<C>,
-    mode: LockMode,
 ) -> bool {
     if !node.has_work() {
         return false;
     }
     let count = node.next_piece();
     shared.gate.before(node.name, Work::Asks, count);
-    if let Some(seated) = seat_of(rt, node, mode) {
-        let mut batch = NodeBatch::begin(shared, node, seated, Wakes::Nobody);
-        shared.gate.within(node.name, Work::Asks, count);
-        take_waiting(rt, node, &mut batch);
-        batch.end(rt);
-    }
+    let mut batch = NodeBatch::begin(shared, node, node.lock(rt), Wakes::Nobody);
+    shared.gate.within(node.name, Work::Asks, count);
+    take_waiting(rt, node, &mut batch);
+    batch.end(rt);
     shared.gate.after(node.name, Work::Asks, count);
     true
 }
@@ -91,14 +66,13 @@ fn visit_all<R: Wait, C: Core + Named, G: Gate>(
     rt: &R,
     shared: &Shared<C, G>,
     nodes: &[Arc<RunningNode<C>>],
-    mode: LockMode,
 ) -> bool {
     let Some((_, after)) = nodes.split_first() else {
         return false;
     };
     let mut found = false;
     for node in nodes.iter().chain(after.iter().rev()) {
-        if visit(rt, shared, node, mode) {
+        if visit(rt, shared, node) {
             found = true;
         }
     }
@@ -137,7 +111,7 @@ fn run_nodes<R: Wait, C: Core + Named, G: Gate>(
         if chain.wake_up.changes() != changes {
             break;
         }
-        if visit_all(rt, shared, nodes, LockMode::Waits) {
+        if visit_all(rt, shared, nodes) {
             continue;
         }
         chain.wake_up.doze();
@@ -149,19 +123,26 @@ fn run_nodes<R: Wait, C: Core + Named, G: Gate>(
     }
 }
 
-/// Carries what a caller's step sent on to the other nodes, for at most `ROUNDS` rounds. The chain
-/// thread takes what still waits then.
+/// Takes batches of the nodes in the chain thread's place, for at most `ROUNDS` rounds, and gives
+/// the place back (`WakeUp::take_place`). Wakes the chain thread if anything still waits then, or
+/// out of memory for the list of the nodes.
 pub(crate) fn run_inline<R: Wait, C: Core + Named, G: Gate>(
     rt: &R,
     shared: &Shared<C, G>,
     chain: &Chain<C>,
 ) {
-    if let Ok(nodes) = chain.nodes(rt, shared.alloc) {
-        for _ in 0..ROUNDS {
-            if !visit_all(rt, shared, nodes.as_slice(), LockMode::PassesBy) {
-                return;
-            }
+    let Ok(nodes) = chain.nodes(rt, shared.alloc) else {
+        chain.wake_up.doze();
+        chain.wake_up.ring();
+        return;
+    };
+    for _ in 0..ROUNDS {
+        if !visit_all(rt, shared, nodes.as_slice()) {
+            break;
         }
     }
-    chain.wake_up.ring();
+    chain.wake_up.doze();
+    if nodes.iter().any(|node| node.has_work()) {
+        chain.wake_up.ring();
+    }
 }

@@ -1,9 +1,10 @@
 //! `Shared`: the state that all threads of a store share. Sends messages and serves one request;
 //! called by `batch`, `chain_thread`, `work`, and the store and clients of `craq_workers`.
-ghost use Rattle.std.specs.Prelude.{◌≡◌, ◌⊎◌, ◌<◌, ◌≤◌, Err, ◌↔◌, IfErr, IfOk, IsTrue, MatchResult, None, Ok, OnOk, Some, length, option_map, slice_get};
+ghost use Rattle.std.specs.Prelude.{◌≡◌, ◌⊎◌, ◌<◌, ◌≤◌, IfErr, IfOk, MatchResult, None, OnOk, Some, false, length, slice_get};
 ghost use Rattle.craq_pending_calls.specs.Refused.{CanRefuse, IsUpdate};
 ghost use Rattle.craq_running_chain.specs.Missed.{IsMissed};
-ghost use Rattle.craq_running_chain.specs.Asks.{IsPut, IsServed, IsRejected, in_hand};
+ghost use Rattle.craq_running_chain.specs.Asks.{IsPut, IsServed, IsRejected};
+ghost use Rattle.craq_running_node.specs.Replies.{in_hand};
 
 use crate::batch::NodeBatch;
 use crate::chain::Chain;
@@ -15,11 +16,11 @@ use craq_names::{ChainId, NodeId, NodeName, Refusal};
 use craq_node::Core;
 use craq_pending_calls::{is_update, refusal_of_call};
 use craq_running_node::{
-    AskingCaller, Delivery, Gate, Outcome, OwnAsk, QueuedAsk, RunningNode, Work,
+    Asked, CallRefusal, Delivery, Gate, OwnAsk, OwnReply, QueuedAsk, RunningNode, Work, refuse_own,
 };
 use craq_sending::Kind;
 use craq_store_history::{Entry, StoreRule};
-use craq_store_parts::{AnsweredCall, Messages, Outgoing, StoreHistory, Wire};
+use craq_store_parts::{Messages, Outgoing, Refused, StoreHistory, Wire};
 use std::alloc::Global;
 use std::sync::{Mutex, Wait};
 
@@ -50,16 +51,29 @@ pub enum Wakes {
     Nobody,
 }
 
-/// Returns the receipt or the refusal that is in hand, or `None` if a completion will come.
-fn in_hand<C: Core + Named>(reply: Option<Outcome<C>>) -> Result<Option<AnsweredCall<C>>, Refusal>
-    ensures ok { IfOk result (λ found. reply ≡ option_map Ok found) }
-    ensures err { IfErr result (λ e. reply ≡ Some (Err e)) }
-{
-    match reply {
-        None => Ok(None),
-        Some(Ok(receipt)) => Ok(Some(receipt)),
-        Some(Err(refusal)) => Err(refusal),
-    }
+/// The part of a chain that a caller may run for its own request.
+#[derive(Clone, Copy)]
+pub enum Reach {
+    /// The node that it asks.
+    OneNode,
+    /// All nodes of the chain: the caller has no other request.
+    WholeChain,
+    /// All nodes of the chain, once the caller has sent its other requests too. It then calls
+    /// `Shared::run_queued`.
+    WholeChainLater,
+}
+
+/// The way of a request to its node.
+#[derive(Clone, Copy)]
+enum Way {
+    /// The caller takes the step; the chain's threads go on from there.
+    OwnStep,
+    /// The caller takes the step, and then what waits at the nodes: it has the chain thread's place.
+    Inline,
+    /// The request waits in the node's queue.
+    Queue,
+    /// The request waits there until the caller runs the chain.
+    QueueForCaller,
 }
 
 /// Returns the name of the node of this id in the chain of another.
@@ -163,27 +177,6 @@ impl<C: Core + Named, G: Gate> Shared<C, G> {
         self.gate.after(node.name, Work::Asks, count);
     }
 
-    /// Takes the step of the caller's own request: a piece of a node's work on requests. Returns
-    /// the reply, or `None` if a completion will come.
-    fn serve_here<R: Wait>(
-        &self,
-        rt: &R,
-        node: &RunningNode<C>,
-        own: OwnAsk<'_, C>,
-        wakes: Wakes,
-    ) -> Option<Outcome<C>>
-        ensures { IsServed C.represents own.entry.made.name own.entry.made.ask own.entry.caller.pass own.entry.caller.token result }
-    {
-        let count = node.next_piece();
-        self.gate.before(node.name, Work::Asks, count);
-        let mut batch = NodeBatch::begin(self, node, node.lock(rt), wakes);
-        self.gate.within(node.name, Work::Asks, count);
-        let reply = batch.take_own(rt, own);
-        batch.end(rt);
-        self.gate.after(node.name, Work::Asks, count);
-        reply
-    }
-
     /// Sends a request to a node of this chain. Returns the reply to the call, or `None` if a
     /// completion will come. A refusal that such a request cannot have becomes `Closed`.
     pub fn submit<R: Wait>(
@@ -192,104 +185,132 @@ impl<C: Core + Named, G: Gate> Shared<C, G> {
         chain: &Chain<C>,
         ask: &Ask,
         own: OwnAsk<'_, C>,
-    ) -> Result<Option<AnsweredCall<C>>, Refusal>
+        reach: Reach,
+    ) -> OwnReply<C>
         requires { own.made.ask ≡ ask.now }
         ensures refused { IfErr result (λ e. CanRefuse ask.now e) }
-        ensures put { IsPut C.represents self.now.chain_threads own.entry.made.name ask.now own.entry.caller.pass own.entry.caller.token (in_hand result) }
+        ensures put { IsPut C.represents self.now.chain_threads own.entry.made.name ask.now own.entry.pass own.entry.at.token (in_hand result) }
     {
         chain.rest.end();
-        match self.submit_own(rt, chain, own) {
+        match self.submit_own(rt, chain, own, reach) {
             Ok(found) => Ok(found),
-            Err(refusal) => Err(refusal_of_call(ask, refusal)),
+            Err(refusal) => Err(possible_refusal(ask, refusal)),
         }
     }
 
-    /// Sends an owned request to a node of this chain, in the way that fits the store's threads.
-    /// Returns the receipt, or `None` if a completion will come.
+    /// Returns the way of a request that fits the store's threads. With a chain thread, the caller
+    /// takes the step of a read, and of an update if it may run the whole chain and that thread
+    /// sleeps: then it takes that thread's place. It may leave an update in the queue for later.
+    fn way_of(&self, chain: &Chain<C>, ask: &Ask, reach: Reach) -> Way
+        ensures queue { result ≡ Way.Queue → (self.now.chain_threads ≡ false) ⊎ IsUpdate ask.now }
+        ensures for_caller { result ≡ Way.QueueForCaller → IsUpdate ask.now }
+    {
+        if self.chain_threads {
+            if !is_update(ask) {
+                return Way::OwnStep;
+            }
+            match reach {
+                Reach::WholeChainLater => Way::QueueForCaller,
+                Reach::WholeChain if chain.wake_up.take_place() => Way::Inline,
+                Reach::WholeChain | Reach::OneNode => Way::Queue,
+            }
+        } else if self.in_place {
+            Way::OwnStep
+        } else {
+            Way::Queue
+        }
+    }
+
+    /// Sends an owned request to a node of this chain. Returns the reply, or `None` if a completion
+    /// will come.
     fn submit_own<R: Wait>(
         &self,
         rt: &R,
         chain: &Chain<C>,
         own: OwnAsk<'_, C>,
-    ) -> Result<Option<AnsweredCall<C>>, Refusal>
-        ensures { IsPut C.represents self.now.chain_threads own.entry.made.name own.entry.made.ask own.entry.caller.pass own.entry.caller.token (in_hand result) }
+        reach: Reach,
+    ) -> OwnReply<C>
+        ensures { IsPut C.represents self.now.chain_threads own.entry.made.name own.entry.made.ask own.entry.pass own.entry.at.token (in_hand result) }
     {
-        let in_place = self.in_place;
-        if self.chain_threads {
-            self.submit_to_chain_thread(rt, chain, own)
-        } else if in_place {
-            in_hand(self.serve_at(rt, chain, own, Wakes::ChainThread))
-        } else {
-            queue(rt, chain, own)
+        match self.way_of(chain, own.made.ask(), reach) {
+            Way::OwnStep => self.serve_at(rt, chain, own, Wakes::ChainThread),
+            Way::Inline => {
+                let reply = self.serve_at(rt, chain, own, Wakes::Nobody);
+                run_inline(rt, self, chain);
+                reply
+            }
+            Way::Queue => {
+                let queued = queue(rt, chain, own);
+                chain.wake_up.ring();
+                queued
+            }
+            Way::QueueForCaller => {
+                let queued = queue(rt, chain, own);
+                chain.wake_up.leave();
+                queued
+            }
         }
     }
 
-    /// Sends an owned request to a node of a chain that one thread runs. The caller takes the step
-    /// of a read, and of an update if its load is light and the chain thread sleeps; else the
-    /// request is queued. Returns the receipt, or `None` if a completion will come.
-    fn submit_to_chain_thread<R: Wait>(
-        &self,
-        rt: &R,
-        chain: &Chain<C>,
-        own: OwnAsk<'_, C>,
-    ) -> Result<Option<AnsweredCall<C>>, Refusal>
-        ensures { IsPut C.represents self.now.chain_threads own.entry.made.name own.entry.made.ask own.entry.caller.pass own.entry.caller.token (in_hand result) }
-    {
-        if !is_update(own.made.ask()) {
-            in_hand(self.serve_at(rt, chain, own, Wakes::ChainThread))
-        } else if own.caller.light_load && chain.wake_up.is_idle() {
-            let reply = self.serve_at(rt, chain, own, Wakes::Nobody);
+    /// Runs the chain for the requests that were left in its queues, if the chain thread sleeps.
+    /// Else that thread, or who has its place, takes them.
+    pub fn run_queued<R: Wait>(&self, rt: &R, chain: &Chain<C>) {
+        if chain.wake_up.take_left() && chain.wake_up.take_place() {
             run_inline(rt, self, chain);
-            in_hand(reply)
-        } else {
-            let queued = queue(rt, chain, own);
-            chain.wake_up.ring();
-            queued
         }
     }
 
-    /// Takes the step of the caller's own request at the node of this name. Returns the reply, or
-    /// `None` if a completion will come.
+    /// Takes the step of the caller's own request at the node of this name: a piece of the node's
+    /// work on requests. Returns the reply, or `None` if a completion will come.
     fn serve_at<R: Wait>(
         &self,
         rt: &R,
         chain: &Chain<C>,
         own: OwnAsk<'_, C>,
         wakes: Wakes,
-    ) -> Option<Outcome<C>>
-        ensures { IsServed C.represents own.entry.made.name own.entry.made.ask own.entry.caller.pass own.entry.caller.token result ⊎ IsRejected result }
+    ) -> OwnReply<C>
+        ensures { IsServed C.represents own.entry.made.name own.entry.made.ask own.entry.pass own.entry.at.token (in_hand result) ⊎ IsRejected (in_hand result) }
     {
-        match chain.node(rt, own.made.name().node) {
-            Err(refusal) => {
-                drop(own);
-                Some(Err(refusal))
-            }
-            Ok(node) => self.serve_here(rt, &node, own, wakes),
-        }
+        let node = match chain.node(rt, own.made.name().node) {
+            Ok(node) => node,
+            Err(refusal) => return Err(refuse_own(own, refusal)),
+        };
+        let count = node.next_piece();
+        self.gate.before(node.name, Work::Asks, count);
+        let mut batch = NodeBatch::begin(self, &node, node.lock(rt), wakes);
+        self.gate.within(node.name, Work::Asks, count);
+        let reply = batch.take_own(rt, own);
+        batch.end(rt);
+        self.gate.after(node.name, Work::Asks, count);
+        reply
     }
 }
 
+/// Returns the refusal of a call that this request can have: its own, or `Closed`. A call that it
+/// gives back stays in it. So does the moment at which a node gave the refusal, if it is its own.
+pub fn possible_refusal<N: Named>(ask: &Ask, refusal: CallRefusal<N>) -> CallRefusal<N>
+    ensures reported { CanRefuse ask.now refusal → result ≡ refusal }
+    ensures closed { ¬ (CanRefuse ask.now refusal) → result ≡ Refusal.Closed }
+    ensures can { CanRefuse ask.now result }
+{
+    let refused = refusal.into_refused();
+    let possible = refusal_of_call(ask, refused.refusal());
+    if refused.refusal() == possible {
+        return CallRefusal::new(refused);
+    }
+    CallRefusal::new(refused.instead(possible))
+}
+
 /// Queues a request for its node: a completion will come.
-fn queue<R: Wait, C: Core + Named>(
-    rt: &R,
-    chain: &Chain<C>,
-    own: OwnAsk<'_, C>,
-) -> Result<Option<AnsweredCall<C>>, Refusal>
+fn queue<R: Wait, C: Core + Named>(rt: &R, chain: &Chain<C>, own: OwnAsk<'_, C>) -> OwnReply<C>
     ensures { MatchResult result (λ found. found ≡ None) (λ e. IsMissed e) }
 {
-    let OwnAsk {
-        made,
-        caller: asking,
-    } = own;
+    let Asked { made, pass, at } = own;
     let node = made.name().node;
-    match CompletionSender::expect(rt, asking.completions, asking.token) {
-        Err(_) => {
-            drop(made);
-            Err(Refusal::Memory)
-        }
-        Ok(caller) => {
-            let pass = asking.pass;
-            chain.enqueue(rt, node, QueuedAsk { made, pass, caller })?;
+    match CompletionSender::expect(rt, at.completions, at.token) {
+        Err(_) => Err(CallRefusal::before_step(made, Refusal::Memory)),
+        Ok(at) => {
+            chain.enqueue(rt, node, Asked { made, pass, at })?;
             Ok(None)
         }
     }

@@ -14,6 +14,8 @@ pub struct WakeUp {
     parker: Parker,
     /// The chain thread sleeps, or is about to.
     idle: AtomicBool,
+    /// A request was queued for which nobody was woken: its caller is to run the chain.
+    left: AtomicBool,
     changes: AtomicU64,
 }
 
@@ -23,6 +25,7 @@ impl WakeUp {
         WakeUp {
             parker: Parker::new(),
             idle: AtomicBool::new(false),
+            left: AtomicBool::new(false),
             changes: AtomicU64::new(0),
         }
     }
@@ -45,12 +48,25 @@ impl WakeUp {
         self.changes.load(Ordering::SeqCst)
     }
 
-    /// Returns whether the chain thread sleeps, or is about to.
-    pub(crate) fn is_idle(&self) -> bool {
-        self.idle.load(Ordering::SeqCst)
+    /// Takes the chain thread's place if that thread sleeps, or is about to. Returns whether it did.
+    /// Nobody wakes the thread then: the caller takes what waits, and gives the place back by
+    /// `doze`.
+    pub(crate) fn take_place(&self) -> bool {
+        self.idle.load(Ordering::SeqCst) && self.idle.swap(false, Ordering::SeqCst)
     }
 
-    /// Marks the thread as about to sleep. It has to look once more before it does.
+    /// Marks that a request is queued for which nobody is woken.
+    pub(crate) fn leave(&self) {
+        self.left.store(true, Ordering::SeqCst);
+    }
+
+    /// Clears the mark of `leave`. Returns whether it was set.
+    pub(crate) fn take_left(&self) -> bool {
+        self.left.load(Ordering::SeqCst) && self.left.swap(false, Ordering::SeqCst)
+    }
+
+    /// Marks the thread as about to sleep, or gives its place back. The caller has to look once more
+    /// for what waits: nobody was woken for what came before.
     pub(crate) fn doze(&self) {
         self.idle.store(true, Ordering::SeqCst);
     }

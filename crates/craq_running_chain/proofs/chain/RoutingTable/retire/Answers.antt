@@ -6,4 +6,4 @@ use Rattle.craq_running_chain.proofs.chain.RoutingTable.retire.Goals as goal
 pub loop-route-preserved : goal.loop-route-preserved
 loop-route-preserved g c =
     let within : c.loop-route.route-index < length c.loop-route.route-items = omega (arith, c.loop-route-test.true) in
-    changed_more (retired c.args.id c.args.keep) c.loop-route.route-index c.deref_mut-route-items.result.now c.loop-route.route-items c.route-item.result c.retire.new.self within c.route-item.is (c.retire.ensures ∙ ap (retired c.args.id c.args.keep) (sym c.route-item.is)) c.loop-route.invariant
+    changed_more (retired c.args.id c.args.removed) c.loop-route.route-index c.deref_mut-route-items.result.now c.loop-route.route-items c.route-item.result c.retire.new.self within c.route-item.is (c.retire.ensures ∙ ap (retired c.args.id c.args.removed) (sym c.route-item.is)) c.loop-route.invariant

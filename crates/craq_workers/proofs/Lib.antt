@@ -5,3 +5,5 @@ pub mod Names
 pub mod Openings
 pub mod Posts
 pub mod Witnessing
+pub mod Changing
+pub mod Refusing

@@ -110,12 +110,12 @@ stop_refused represents now old pass r e kept h is =
     stopped_of represents now (with_inside old kept.named.0) pass r (h kept.named.0 kept.named.1) e is
 
 -- a master refuses a join as it may
-pub join_refused : (old new : Celled Mastered BookEvent) (id pass : ℕ) (r : Result Receipt Refusal) → TakesTransition old new (books.Join id) pass r → IfErr r CanJoin
+join_refused : (old new : Celled Mastered BookEvent) (id pass : ℕ) (r : Result Receipt Refusal) → TakesTransition old new (books.Join id) pass r → IfErr r CanJoin
 join_refused old new id pass (Ok receipt) h = tt
 join_refused old new id pass (Err e) h =
     wanted CanJoin (CanWant old 0 pass (IsOk (book_step old.inside (books.Join id)))) e (cell_step book_step old (books.Join id) 0 pass) tt (unstepped CanJoin book_step old (books.Join id) 0 pass tt (not_joined old.inside id)) h.0
 
-pub removal_refused : (old new : Celled Mastered BookEvent) (stopped : NodeName) (stop : Receipt) (pass : ℕ) (r : Result Receipt Refusal) → TakesTransition old new (books.Remove stopped stop) pass r → IfErr r IsKeptIn
+removal_refused : (old new : Celled Mastered BookEvent) (stopped : NodeName) (stop : Receipt) (pass : ℕ) (r : Result Receipt Refusal) → TakesTransition old new (books.Remove stopped stop) pass r → IfErr r IsKeptIn
 removal_refused old new stopped stop pass (Ok receipt) h = tt
 removal_refused old new stopped stop pass (Err e) h =
     let event : BookEvent = books.Remove stopped stop in
@@ -125,3 +125,7 @@ removal_refused old new stopped stop pass (Err e) h =
 pub join_refused_so : {X : Type 0} (old new : Celled Mastered BookEvent) (id pass : ℕ) (r : Result (Receipt × X) Refusal) → TakesTransition old new (books.Join id) pass (receipt_in r) → IfErr r CanJoin
 join_refused_so old new id pass (Ok x) h = tt
 join_refused_so old new id pass (Err e) h = join_refused old new id pass (Err e) h
+
+pub removal_refused_so : {X : Type 0} (old new : Celled Mastered BookEvent) (stopped : NodeName) (stop : Receipt) (pass : ℕ) (r : Result (Receipt × X) Refusal) → TakesTransition old new (books.Remove stopped stop) pass (receipt_in r) → IfErr r IsKeptIn
+removal_refused_so old new stopped stop pass (Ok x) h = tt
+removal_refused_so old new stopped stop pass (Err e) h = removal_refused old new stopped stop pass (Err e) h

@@ -1,25 +1,19 @@
 -- The view that contracts have of a client of a running store, and the refusals of its calls.
-use Rattle.std.specs.Prelude.{◌≡◌, ◌<◌, ◌≤◌, ◌⊎◌, ℕ, Bool, List}
+use Rattle.std.specs.Prelude.{◌≡◌, ◌<◌, ◌≤◌, ◌⊎◌, ℕ, List}
 use Rattle.craq_names.specs.declared.name.NodeName.{NodeName}
 use Rattle.craq_names.specs.declared.refusal.Refusal.{Refusal}
 use Rattle.craq_names.specs.declared.refusal.Refusal.TheVariants.{UnknownChain}
 use Rattle.craq_pending_calls.specs.Refused.{CanRefuse}
-use Rattle.craq_completions.specs.declared.token.Token.{Token}
 use Rattle.craq_model.specs.declared.ask.Ask.{Ask}
 use Rattle.craq_store_history.specs.declared.entry.Entry.{Entry}
 
--- the number of chains of the client's store, with ids from 0; whether one thread runs each; the largest stamp that the client has
--- seen; the number of its session, and the history that it has seen
+-- the number of chains of the client's store, with ids from 0; the largest stamp that the client has seen; the number of its session,
+-- and the history that it has seen
 pub record Asker : Type 0 where
   pub chains : ℕ
-  pub chain_threads : Bool
   pub pass : ℕ
   pub client : ℕ
   pub seen : List Entry
-
--- the token of the one completion that comes into a client's queue
-abbrev pub only : Token
-only = record { connection = 0; call = 0 }
 
 -- the refusals of a request at a node in a store of that many chains: it has no such chain; or it has it, and such a request may be
 -- refused so

@@ -1,22 +1,23 @@
-//! `Store::open_session`, `Store::make_ask` and `Store::finish_ask`: calls of a caller that submits
-//! its requests itself and has no `Client`; for a server.
-ghost use Rattle.std.specs.Prelude.{◌≡◌, ◌⊎◌, [], IfErr, IfOk};
+//! `Store::open_session`, `Store::make_ask`, `Store::finish_ask` and `Store::give_up_ask`: calls of a
+//! caller that submits its requests itself and has no `Client`; for a server.
+ghost use Rattle.std.specs.Prelude.{◌≡◌, ◌≤◌, ◌⊎◌, ◌↔◌, [], Err, IfErr, IfOk, OnErr, length};
 ghost use mathlib.Core.List.{IsPrefix};
 ghost use Rattle.craq_ghost_history.specs.Histories.{AreComparable};
 ghost use Rattle.craq_store_history.specs.Chains.{IsHistory};
 ghost use Rattle.craq_store_parts.specs.Recorded.{HasAccepted, HasReplied};
 ghost use Rattle.craq_store_parts.specs.Sent.{IsMade};
+ghost use Rattle.craq_workers.specs.Untaken.{IsGivenUp, LeavesOpen};
 
-use crate::client::{finish_call, make_call};
+use crate::client::{finish_call, give_up_call, make_call};
 use crate::store::Store;
 use craq_ghost_history::Named;
 use craq_model::Ask;
 use craq_names::{NodeName, Refusal};
 use craq_node::Core;
-use craq_running_node::Gate;
+use craq_running_node::{CallRefusal, Gate};
 use craq_seat::CallReceipt;
 use craq_store_history::CallId;
-use craq_store_parts::{AnsweredCall, MadeAsk, Session};
+use craq_store_parts::{AnsweredCall, MadeAsk, Session, StoreToken};
 use std::alloc::AllocError;
 use std::sync::Wait;
 
@@ -37,8 +38,10 @@ impl<C: Core + Named, G: Gate> Store<C, G> {
 
     /// Makes a call of a copy of this request: adds it to the store's history, after all that the
     /// session has seen. Returns what names the call, and the request, which `submit` takes. The
-    /// reply goes to `finish_ask`. Refused with `Memory` when out of memory, and with `Exhausted` if
-    /// the session made 2^64 - 1 calls.
+    /// reply goes to `finish_ask`, a refusal to `give_up_ask`. Refused, and no call is made, with:
+    /// - `UnknownChain` exactly if the store has no such chain;
+    /// - `Memory` when out of memory;
+    /// - `Exhausted` if the session made 2^64 - 1 calls.
     pub fn make_ask(
         &self,
         session: &mut Session<C>,
@@ -50,8 +53,11 @@ impl<C: Core + Named, G: Gate> Store<C, G> {
         ensures caller { IfOk result (λ r. r.0.client ≡ session.old.client) }
         ensures client { session.new.client ≡ session.old.client }
         ensures later { IsPrefix session.old.seen session.new.seen }
-        ensures refused { IfErr result (λ e. (e ≡ Refusal.Memory) ⊎ (e ≡ Refusal.Exhausted)) }
+        ensures unknown { (result ≡ Err Refusal.UnknownChain) ↔ (length self.now.names ≤ node.now.chain) }
+        ensures refused { IfErr result (λ e. (e ≡ Refusal.UnknownChain) ⊎ (e ≡ Refusal.Memory) ⊎ (e ≡ Refusal.Exhausted)) }
+        ensures same { OnErr result (session.new ≡ session.old) }
     {
+        self.shared.chain(node.chain)?;
         match make_call(self.alloc, &self.shared.history, session, node, ask) {
             Ok(made) => Ok(made),
             Err(Refusal::Memory) => Err(Refusal::Memory),
@@ -77,6 +83,47 @@ impl<C: Core + Named, G: Gate> Store<C, G> {
         ensures closed { IfErr result (λ e. e ≡ Refusal.Closed) }
     {
         finish_call(&self.shared.history, session, answered, call, node)
+    }
+
+    /// Gives up a call of the session that was refused. Returns its refusal, which then says that no
+    /// step accepts the call, or leaves that open: `Stopped`, `Memory` or `Closed`. Another refusal
+    /// that does not give this call back becomes `Closed`. The session has then seen a moment at
+    /// which the call's node refuses it by its rules, unless the refusal is one of these three or
+    /// `WrongNode`.
+    pub fn give_up_ask(
+        &self,
+        session: &mut Session<C>,
+        refusal: CallRefusal<C>,
+        call: CallId,
+    ) -> Refusal
+        requires { call.client ≡ session.old.client }
+        ensures reported { (result ≡ refusal) ⊎ (result ≡ Refusal.Closed) }
+        ensures kept { LeavesOpen refusal → result ≡ refusal }
+        ensures given_up { LeavesOpen result ⊎ IsGivenUp session.new.seen call result }
+        ensures client { session.new.client ≡ session.old.client }
+        ensures later { IsPrefix session.old.seen session.new.seen }
+    {
+        give_up_call(&self.shared.history, session, refusal, call)
+    }
+
+    /// Returns a token that has seen as much of the store's history as the session, for `stop_after`
+    /// and others.
+    pub fn token_of(&self, session: &mut Session<C>) -> StoreToken<C>
+        ensures token { result ≡ session.old.seen }
+        ensures same { session.new ≡ session.old }
+    {
+        session.token(&self.shared.history)
+    }
+
+    /// Lets the session see all that the token has seen: the calls that it makes from then on come
+    /// after it.
+    pub fn show(&self, session: &mut Session<C>, token: StoreToken<C>)
+        ensures that { IsPrefix token session.new.seen }
+        ensures history { IsHistory session.new.seen }
+        ensures later { IsPrefix session.old.seen session.new.seen }
+        ensures client { (session.new.client ≡ session.old.client) × (session.new.next ≡ session.old.next) }
+    {
+        session.learn(&self.shared.history, token);
     }
 
     /// Shows that two sessions of this store have seen prefixes of one history: one begins with the

@@ -1,28 +1,30 @@
 //! `Client`: blocking calls of a store from any thread, one at a time, with the pass that they
 //! raise and the history that they have seen.
-ghost use Rattle.std.specs.Prelude.{◌≡◌, ◌<◌, ◌⊎◌, ◌≤◌, ◌↔◌, max, Err, IfErr, IfOk, Ok, OnErr, length};
+ghost use Rattle.std.specs.Prelude.{◌≡◌, ◌<◌, ◌⊎◌, ◌≤◌, ◌↔◌, List, Some, max, Err, IfErr, IfOk, Ok, OnErr, length};
 ghost use mathlib.Core.List.{IsPrefix};
 ghost use Rattle.craq_ghost_history.specs.Histories.{AreComparable};
 ghost use Rattle.craq_pending_calls.specs.Calls.{IsCallOf};
 ghost use Rattle.craq_pending_calls.specs.Refused.{CanRefuse};
-ghost use Rattle.craq_running_chain.specs.Asks.{IsCalled};
+ghost use Rattle.craq_store_history.specs.declared.entry.Entry.{Entry};
 ghost use Rattle.craq_store_history.specs.Chains.{IsHistory};
 ghost use Rattle.craq_store_parts.specs.Recorded.{HasAccepted, HasReplied};
 ghost use Rattle.craq_store_parts.specs.Sent.{IsMade};
-ghost use Rattle.craq_workers.specs.Clients.{RefusesAsk, only};
 ghost use Rattle.craq_store_parts.specs.Witnessed.{IsWitnessed};
+ghost use Rattle.craq_workers.specs.Clients.{RefusesAsk};
+ghost use Rattle.craq_running_chain.specs.Missed.{IsMissed};
+ghost use Rattle.craq_workers.specs.Untaken.{IsGivenUp, IsUntaken, LeavesOpen};
 
 use craq_completions::{Completion, CompletionQueue, Token};
 use craq_ghost_history::Named;
 use craq_model::{Answer, Ask};
 use craq_names::{Copied, NodeName, Pass, Refusal};
 use craq_node::Core;
-use craq_pending_calls::{answer_of_call, pass_after, refusal_of_call};
-use craq_running_chain::Shared;
-use craq_running_node::{AskingCaller, Gate, Outcome, OwnAsk};
+use craq_pending_calls::{answer_of_call, pass_after};
+use craq_running_chain::{Reach, Shared, possible_refusal};
+use craq_running_node::{Asked, CallRefusal, Destination, Gate, Outcome};
 use craq_seat::CallReceipt;
 use craq_store_history::CallId;
-use craq_store_parts::{AnsweredCall, MadeAsk, Session, StoreHistory};
+use craq_store_parts::{AnsweredCall, MadeAsk, Session, StoreHistory, StoreToken};
 use std::alloc::Global;
 use std::marker::Model;
 use std::sync::{Arc, Wait};
@@ -50,7 +52,7 @@ impl<C: Core + Named, G: Gate> Model for Client<C, G> {
 
     ghost Value = { Asker };
 
-    ghost view = { λ c. record { chains = length c.shared.value.chains.items; chain_threads = c.shared.value.chain_threads; pass = c.pass; client = c.session.client; seen = c.session.seen } };
+    ghost view = { λ c. record { chains = length c.shared.value.chains.items; pass = c.pass; client = c.session.client; seen = c.session.seen } };
 }
 
 impl<C: Core + Named, G: Gate> Client<C, G> {
@@ -61,7 +63,7 @@ impl<C: Core + Named, G: Gate> Client<C, G> {
         pass: Pass,
         session: Session<C>,
     ) -> Self
-        ensures { result ≡ record { chains = length shared.value.chains.items; chain_threads = shared.value.chain_threads; pass = pass; client = session.client; seen = session.seen } }
+        ensures { result ≡ record { chains = length shared.value.chains.items; pass = pass; client = session.client; seen = session.seen } }
     {
         Client {
             alloc,
@@ -101,7 +103,9 @@ impl<C: Core + Named, G: Gate> Client<C, G> {
     /// - `Memory` when out of memory.
     ///
     /// After `Stopped`, `Memory` or `Closed` an update may or may not have taken effect. It may be
-    /// sent again with its number.
+    /// sent again with its number. After any other refusal no step was taken for the request, and
+    /// none will be: the store's history shows it (`IsUntaken`). It shows also a moment after the
+    /// call at which the node refuses the request by its rules, unless the refusal is `WrongNode`.
     pub fn call<R: Wait>(
         &mut self,
         rt: &R,
@@ -114,18 +118,37 @@ impl<C: Core + Named, G: Gate> Client<C, G> {
         ensures pass { IfOk result (λ r. self.new.pass ≡ max self.old.pass r.1.answered.stamp) }
         ensures same { OnErr result (self.new.pass ≡ self.old.pass) }
         ensures chains { self.new.chains ≡ self.old.chains }
-        ensures chain_threads { self.new.chain_threads ≡ self.old.chain_threads }
         ensures client { self.new.client ≡ self.old.client }
         ensures later { IsPrefix self.old.seen self.new.seen }
         ensures run { IfOk result (λ r. IsWitnessed self.old.client self.old.seen node ask r.0 r.1 self.new.seen) }
-        ensures taken { IfOk result (λ r. IsCalled C.represents self.old.chain_threads node ask self.old.pass only (Ok r.1)) }
-        ensures left { IfErr result (λ e. (e ≡ Refusal.UnknownChain) ⊎ IsCalled C.represents self.old.chain_threads node ask self.old.pass only (Err e)) }
+        ensures untaken { IfErr result (λ e. IsUntaken self.old.client self.old.seen node ask self.new.seen e) }
     {
         let called = self.wait_for(rt, &node, &ask);
         drop(ask);
         let (answer, receipt) = called?;
         self.pass = pass_after(self.pass, &receipt);
         Ok((answer, receipt))
+    }
+
+    /// Returns a token that has seen as much of the store's history as the client, for
+    /// `Store::stop_after` and others.
+    pub fn token(&mut self) -> StoreToken<C>
+        ensures token { result ≡ self.old.seen }
+        ensures same { self.new ≡ self.old }
+    {
+        let shared = &self.shared;
+        self.session.token(&shared.history)
+    }
+
+    /// Sees all that the token has seen: the calls that the client makes from then on come after it.
+    pub fn learn(&mut self, token: StoreToken<C>)
+        ensures that { IsPrefix token self.new.seen }
+        ensures history { IsHistory self.new.seen }
+        ensures later { IsPrefix self.old.seen self.new.seen }
+        ensures same { self.new ≡ record self.old { seen = self.new.seen } }
+    {
+        let shared = &self.shared;
+        self.session.learn(&shared.history, token);
     }
 
     /// Shows that two clients of one store have seen prefixes of one history: one begins with the
@@ -153,12 +176,14 @@ impl<C: Core + Named, G: Gate> Client<C, G> {
         ensures same { self.new ≡ record self.old { seen = self.new.seen } }
         ensures later { IsPrefix self.old.seen self.new.seen }
         ensures run { IfOk result (λ r. IsWitnessed self.old.client self.old.seen node.now ask.now r.0 r.1 self.new.seen) }
-        ensures taken { IfOk result (λ r. IsCalled C.represents self.old.chain_threads node.now ask.now self.old.pass only (Ok r.1)) }
-        ensures left { IfErr result (λ e. (e ≡ Refusal.UnknownChain) ⊎ IsCalled C.represents self.old.chain_threads node.now ask.now self.old.pass only (Err e)) }
+        ensures untaken { IfErr result (λ e. IsUntaken self.old.client self.old.seen node.now ask.now self.new.seen e) }
     {
         self.shared.chain(node.chain)?;
         let (call, made) = self.make(node, ask)?;
-        let answered = self.reply(rt, ask, made)?;
+        let answered = match self.reply(rt, ask, made) {
+            Ok(answered) => answered,
+            Err(refusal) => return Err(self.give_up(refusal, call)),
+        };
         let receipt = self.finish(answered, call, node)?;
         let answer = match answer_of_call(self.alloc, &receipt, node, ask, self.pass) {
             Ok(answer) => answer,
@@ -203,12 +228,23 @@ impl<C: Core + Named, G: Gate> Client<C, G> {
         finish_call(&shared.history, &mut self.session, answered, call, node)
     }
 
+    /// Gives up a call that was refused, as `give_up_call` does.
+    fn give_up(&mut self, refusal: CallRefusal<C>, call: CallId) -> Refusal
+        requires { call.client ≡ self.old.client }
+        ensures reported { (result ≡ refusal) ⊎ (result ≡ Refusal.Closed) }
+        ensures given_up { LeavesOpen result ⊎ IsGivenUp self.new.seen call result }
+        ensures same { self.new ≡ record self.old { seen = self.new.seen } }
+        ensures later { IsPrefix self.old.seen self.new.seen }
+    {
+        let shared = &self.shared;
+        give_up_call(&shared.history, &mut self.session, refusal, call)
+    }
+
     /// Returns the reply to a request, with a new completion queue to wait at.
     fn reply<R: Wait>(&self, rt: &R, ask: &Ask, made: MadeAsk<C>) -> Outcome<C>
         requires ask { made.ask ≡ ask.now }
         requires there { made.name.chain < self.now.chains }
         ensures refused { IfErr result (λ e. CanRefuse ask.now e) }
-        ensures called { IsCalled C.represents self.now.chain_threads made.name ask.now self.now.pass only result }
     {
         match Arc::new(self.alloc, CompletionQueue::new(self.alloc, None)) {
             Ok(completions) => {
@@ -216,10 +252,7 @@ impl<C: Core + Named, G: Gate> Client<C, G> {
                 drop(completions);
                 outcome
             }
-            Err(_) => {
-                drop(made);
-                Err(Refusal::Memory)
-            }
+            Err(_) => Err(CallRefusal::before_step(made, Refusal::Memory)),
         }
     }
 
@@ -234,22 +267,20 @@ impl<C: Core + Named, G: Gate> Client<C, G> {
         requires ask { made.ask ≡ ask.now }
         requires there { made.name.chain < self.now.chains }
         ensures refused { IfErr result (λ e. CanRefuse ask.now e) }
-        ensures called { IsCalled C.represents self.now.chain_threads made.name ask.now self.now.pass only result }
     {
-        let caller = AskingCaller {
-            pass: self.pass,
-            completions,
-            token: ONLY,
-            light_load: true,
-        };
         let chain = match self.shared.chain(made.name().chain) {
             Ok(chain) => chain,
-            Err(refusal) => {
-                drop(made);
-                return Err(refusal);
-            }
+            Err(refusal) => return Err(CallRefusal::before_step(made, refusal)),
         };
-        let found = self.shared.submit(rt, chain, ask, OwnAsk { made, caller })?;
+        let own = Asked {
+            made,
+            pass: self.pass,
+            at: Destination {
+                completions,
+                token: ONLY,
+            },
+        };
+        let found = self.shared.submit(rt, chain, ask, own, Reach::WholeChain)?;
         match found {
             Some(answered) => Ok(answered),
             None => wait_for_completion(rt, completions, ask),
@@ -272,6 +303,7 @@ pub(crate) fn make_call<N: Named>(
     ensures client { session.new.client ≡ session.old.client }
     ensures later { IsPrefix session.old.seen session.new.seen }
     ensures refused { IfErr result (λ e. (e ≡ Refusal.Memory) ⊎ (e ≡ Refusal.Closed)) }
+    ensures same { OnErr result (session.new ≡ session.old) }
 {
     let copy = ask.copied(alloc)?;
     match session.call(history, *node, &copy) {
@@ -280,7 +312,7 @@ pub(crate) fn make_call<N: Named>(
             Err(Refusal::Closed)
         }
         Some(made) => {
-            let call = made.call;
+            let call = made.call();
             Ok((call, MadeAsk::new(made, *node, copy)))
         }
     }
@@ -309,6 +341,89 @@ pub(crate) fn finish_call<N: Named>(
     }
 }
 
+/// Gives up a call that was refused. If the refusal gives the call back, the history says from then
+/// on that no step accepts it, and at which moment its node refused it. Else the refusal has to
+/// leave open whether a step did: it becomes `Closed` unless it is `Stopped`, `Memory` or `Closed`.
+pub(crate) fn give_up_call<N: Named>(
+    history: &StoreHistory<N>,
+    session: &mut Session<N>,
+    refusal: CallRefusal<N>,
+    call: CallId,
+) -> Refusal
+    requires { call.client ≡ session.old.client }
+    ensures reported { (result ≡ refusal) ⊎ (result ≡ Refusal.Closed) }
+    ensures kept { LeavesOpen refusal → result ≡ refusal }
+    ensures given_up { LeavesOpen result ⊎ IsGivenUp session.new.seen call result }
+    ensures client { session.new.client ≡ session.old.client }
+    ensures later { IsPrefix session.old.seen session.new.seen }
+{
+    let (refusal, back, moment) = refusal.into_refused().into_parts();
+    let Some(made) = back else {
+        drop(moment);
+        return open_refusal(refusal);
+    };
+    if made.call() != call {
+        drop(made);
+        drop(moment);
+        return open_refusal(refusal);
+    }
+    let refusal = see_moment(history, session, refusal, moment);
+    session.take_back(history, made);
+    refusal
+}
+
+/// Sees the moment at which a node refused a call. Returns the refusal. Without a moment it becomes
+/// `Closed`, unless it can come before a step of a node.
+fn see_moment<N: Named>(
+    history: &StoreHistory<N>,
+    session: &mut Session<N>,
+    refusal: Refusal,
+    moment: Option<StoreToken<N>>,
+) -> Refusal
+    ensures seen { IsMissed result ⊎ ((log : List Entry) × (moment ≡ Some log) × IsPrefix log session.new.seen × (result ≡ refusal)) }
+    ensures reported { (result ≡ refusal) ⊎ (result ≡ Refusal.Closed) }
+    ensures kept { LeavesOpen refusal → result ≡ refusal }
+    ensures client { session.new.client ≡ session.old.client }
+    ensures later { IsPrefix session.old.seen session.new.seen }
+{
+    match moment {
+        None => refusal_before_step(refusal),
+        Some(moment) => {
+            session.learn(history, moment);
+            refusal
+        }
+    }
+}
+
+/// Returns a refusal that no moment of the history shows: this one if it can come before a step of
+/// a node, else `Closed`.
+fn refusal_before_step(refusal: Refusal) -> Refusal
+    ensures missed { IsMissed result }
+    ensures same { LeavesOpen refusal → result ≡ refusal }
+    ensures reported { (result ≡ refusal) ⊎ (result ≡ Refusal.Closed) }
+{
+    match refusal {
+        Refusal::WrongNode => Refusal::WrongNode,
+        Refusal::Stopped => Refusal::Stopped,
+        Refusal::Memory => Refusal::Memory,
+        _ => Refusal::Closed,
+    }
+}
+
+/// Returns a refusal that leaves open whether the call was accepted: this one, or `Closed`.
+fn open_refusal(refusal: Refusal) -> Refusal
+    ensures open { LeavesOpen result }
+    ensures missed { IsMissed result }
+    ensures same { LeavesOpen refusal → result ≡ refusal }
+    ensures reported { (result ≡ refusal) ⊎ (result ≡ Refusal.Closed) }
+{
+    match refusal {
+        Refusal::Stopped => Refusal::Stopped,
+        Refusal::Memory => Refusal::Memory,
+        _ => Refusal::Closed,
+    }
+}
+
 /// Waits for the completion and returns its reply. A refusal that this request cannot have becomes
 /// `Closed`.
 fn wait_for_completion<R: Wait, N: Named>(
@@ -319,11 +434,11 @@ fn wait_for_completion<R: Wait, N: Named>(
     ensures { IfErr result (λ e. CanRefuse ask.now e) }
 {
     let Some(completion) = completions.wait(rt) else {
-        return Err(Refusal::Closed);
+        return Err(CallRefusal::without_call(Refusal::Closed));
     };
     let Completion { token: _, reply } = completion;
     match reply {
         Ok(answered) => Ok(answered),
-        Err(refusal) => Err(refusal_of_call(ask, refusal)),
+        Err(refusal) => Err(possible_refusal(ask, refusal)),
     }
 }

@@ -18,7 +18,10 @@ mod store;
 pub use client::Client;
 pub use craq_completions::{Completion, CompletionQueue, Token};
 pub use craq_ghost_history::Named;
-pub use craq_running_node::{AskingCaller, Gate, OpenGate, Outcome, OwnAsk, Work};
+pub use craq_running_chain::Reach;
+pub use craq_running_node::{
+    Asked, CallRefusal, Destination, Gate, OpenGate, Outcome, OwnReply, Work,
+};
 pub use craq_store_history::CallId;
 pub use craq_store_parts::{AnsweredCall, At, MadeAsk, Session};
 pub use history::{OpenedHistory, open_history};

@@ -1,6 +1,6 @@
 //! Opens chains and nodes, before any step, and lists their workers; called by `store` at a start
 //! and at a join.
-ghost use Rattle.std.specs.Prelude.{◌≡◌, ◌++◌, ◌∷◌, [], IfErr, IfOk, IsSome, Some, map, string_bytes};
+ghost use Rattle.std.specs.Prelude.{◌≡◌, ◌++◌, ◌∷◌, [], IfErr, IfOk, IsSome, Some, if◌then◌else◌, map, string_bytes};
 ghost use Rattle.std.specs.List.{AllByRecursion};
 ghost use Rattle.std.specs.Option.{option_map};
 ghost use Rattle.craq_epochs.specs.Mastered.{opened_master};
@@ -22,7 +22,7 @@ use craq_names::{ChainId, Copied, NodeId, NodeName, Refusal, Stamp};
 use craq_node::Core;
 use craq_place::{MOST_CHAINS, Plan};
 use craq_running_chain::{Chain, Open, Rest, RoutingTable, WakeUp, Worker, master_of};
-use craq_running_node::{Entrances, Queues, Route, RunningNode};
+use craq_running_node::{Entrances, Queues, Removed, Route, RunningNode};
 use craq_seat::{BookCell, Cell, Desk};
 use craq_store_history::{Entry, StoreRule};
 use craq_store_parts::{RecordedDesk, StoreHistory, StoreToken, StoreWriter};
@@ -36,6 +36,19 @@ pub(crate) struct Form {
     /// The cells keep journals.
     pub journal: bool,
     pub staff: Staff,
+}
+
+impl Form {
+    /// Returns the part of a removed node that its chain keeps: an audit merges a journal.
+    pub(crate) fn after_removal(&self) -> Removed
+        ensures { result ≡ (if self.now.journal then Removed.Kept else Removed.Dropped) }
+    {
+        if self.journal {
+            Removed::Kept
+        } else {
+            Removed::Dropped
+        }
+    }
 }
 
 /// A store that starts, as its chains are opened.

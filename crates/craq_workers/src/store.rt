@@ -1,5 +1,5 @@
 //! `Store`: starts and closes a store, stops, removes and joins nodes, ticks, and sends requests.
-ghost use Rattle.std.specs.Prelude.{◌≡◌, [], ◌+◌, ◌<◌, ◌≤◌, ◌==◌, ◌⊎◌, ◌↔◌, Err, IfErr, IfOk, IfSome, IsOk, MatchResult, Ok, OnErr, OnOk, Some, if◌then◌else◌, length, map, option_map, string_bytes};
+ghost use Rattle.std.specs.Prelude.{◌≡◌, [], ◌+◌, ◌<◌, ◌≤◌, ◌==◌, ◌⊎◌, ◌↔◌, Err, IfErr, IfOk, IsOk, MatchResult, Ok, OnErr, OnOk, Some, if◌then◌else◌, length, map, option_map, string_bytes};
 ghost use Rattle.craq_epochs.specs.Mastered.{master_after_join, opened_master};
 ghost use Rattle.craq_ghost_history.specs.declared.author.Author.TheVariants as Author;
 ghost use Rattle.craq_names.specs.Limits.{greatest};
@@ -7,13 +7,12 @@ ghost use Rattle.craq_locked_chain.specs.Membered.{AreMembershipsOf, IsMembershi
 ghost use Rattle.craq_place.specs.Plan.{IsPlan};
 ghost use Rattle.craq_model.specs.Plain.{Plain};
 ghost use Rattle.craq_seat.specs.Calls.{receipt_in};
-ghost use Rattle.craq_seat.specs.Cells.{receipt_of, with_inside};
+ghost use Rattle.craq_seat.specs.Cells.{with_inside};
 ghost use Rattle.craq_seat.specs.Kept.{IsKept};
 ghost use Rattle.craq_seat.specs.Taken.{TakesEvent, TakesTransition};
-ghost use Rattle.craq_running_chain.specs.Asks.{IsServed};
 ghost use Rattle.craq_store_parts.specs.Recorded.{IsUnjoined};
+ghost use Rattle.craq_store_parts.specs.Witnessed.{IsWitnessedJoin, IsWitnessedOrder, IsWitnessedRemoval, IsWitnessedStop};
 ghost use Rattle.craq_workers.specs.Clients.{RefusesAsk};
-ghost use Rattle.craq_running_chain.specs.Missed.{IsMissed};
 ghost use Rattle.craq_workers.specs.Moves.{CanJoin, CanRemove, CanStop, IsKeptIn};
 ghost use Rattle.craq_workers.specs.Posts.{node_posts};
 ghost use Rattle.craq_workers.specs.Stores.{masters_of};
@@ -28,13 +27,17 @@ use craq_model::{Ask, Config, Event};
 use craq_names::{ChainId, Copied, NodeId, NodeName, Pass, Refusal, Stamp};
 use craq_node::Core;
 use craq_place::Plan;
-use craq_running_chain::{Chain, Shared, Wakes, Worker, master_of, refuse_queued, run_worker};
-use craq_running_node::{Gate, OwnAsk, Route, RunningNode, dismiss, refuse_callers};
+use craq_running_chain::{
+    Chain, Reach, Shared, Wakes, Worker, master_of, refuse_queued, run_worker,
+};
+use craq_running_node::{
+    Gate, OwnAsk, OwnReply, Route, RunningNode, dismiss, refuse_callers, refuse_own,
+};
 use craq_seat::{BookCell, BookEvent, Cell, Desk, Receipt};
 use craq_store_history::{Entry, StoreRule};
 use craq_store_parts::{
-    AnsweredCall, Cause, JoinedNode, Messages, RecordedDesk, Session, StoppedNode, StoreHistory,
-    StoreWriter, open_joined,
+    Cause, JoinedNode, Messages, Origin, RecordedDesk, Session, StepCalls, StoppedNode,
+    StoreHistory, StoreToken, StoreWriter, open_joined,
 };
 use crossbeam_channel::{Receiver, Sender};
 use std::alloc::{AllocError, Global};
@@ -169,86 +172,115 @@ fn keeps_desk<C: Core + Named>(desk: &RecordedDesk<C>)
     let _ = desk.cell().journal();
 }
 
-/// Takes the step of a stop at a node's cell. Returns the receipt of the step; a refused one
-/// changes nothing.
+/// Takes the step of a stop at a node's cell, after all that the token has seen. Returns the receipt
+/// of the step, and a token that has seen it; a refused one changes nothing.
 fn stop_desk<C: Core + Named>(
     alloc: Global,
     history: &StoreHistory<C>,
     desk: &mut RecordedDesk<C>,
-) -> Result<Receipt, Refusal>
-    ensures step { (p : Plain) → C.represents desk.old.cell.inside p → TakesEvent C.represents desk.new.cell (with_inside desk.old.cell p) Event.Stop 0 result }
-    ensures receipt { IfOk result (λ receipt. receipt ≡ receipt_of desk.new.cell) }
+    seen: StoreToken<C>,
+) -> Result<(Receipt, StoreToken<C>), Refusal>
+    ensures step { (p : Plain) → C.represents desk.old.cell.inside p → TakesEvent C.represents desk.new.cell (with_inside desk.old.cell p) Event.Stop 0 (receipt_in result) }
+    ensures stopped { IfOk result (λ r. IsWitnessedStop seen desk.old.cell.opening.name r.0 r.1) }
     ensures refused { IfErr result (λ e. CanStop e) }
     ensures same { OnErr result (desk.new.waiting ≡ desk.old.waiting) }
 {
     keeps_desk(desk);
     let cause = Cause {
         pass: Pass::start(),
-        call: None,
-        token: desk.token(history),
+        origin: Origin::sent(seen),
     };
-    let (receipt, done) = desk.take(alloc, history, Event::Stop, cause)?;
-    drop(done);
-    Ok(receipt)
+    match desk.take(alloc, history, Event::Stop, cause) {
+        Ok((receipt, done)) => {
+            let StepCalls {
+                calls,
+                accepted,
+                token,
+            } = done;
+            drop(calls);
+            drop(accepted);
+            let mut token = token;
+            let seen = token.again(history);
+            Ok((receipt, seen))
+        }
+        Err(refused) => {
+            let refusal = refused.refusal();
+            drop(refused);
+            Err(refusal)
+        }
+    }
 }
 
-/// Stops a node, and refuses the callers that wait there with `Stopped`. Returns the receipt of the
-/// step; a refused stop changes nothing.
+/// Stops a node, after all that the token has seen, and refuses the callers that wait there with
+/// `Stopped`. Returns the receipt of the step, and a token that has seen it. A refused stop changes
+/// nothing. Refused with `WrongNode` if the lock holds the desk of another node.
 fn stop_node<R: Wait, C: Core + Named>(
     rt: &R,
     alloc: Global,
     history: &StoreHistory<C>,
     node: &RunningNode<C>,
-) -> Result<Receipt, Refusal>
-    ensures { IfErr result (λ e. CanStop e) }
+    seen: StoreToken<C>,
+) -> Result<(Receipt, StoreToken<C>), Refusal>
+    ensures stopped { IfOk result (λ r. IsWitnessedStop seen node.now.name r.0 r.1) }
+    ensures refused { IfErr result (λ e. CanStop e) }
 {
     let mut seated = node.lock(rt);
-    let receipt = stop_desk(alloc, history, &mut seated.desk)?;
+    if seated.desk.cell().opening().name != node.name {
+        drop(seen);
+        return Err(Refusal::WrongNode);
+    }
+    let stopped = stop_desk(alloc, history, &mut seated.desk, seen)?;
     let callers = dismiss(alloc, &mut seated);
     drop(seated);
     node.halt();
     refuse_callers(rt, alloc, callers, &Refusal::Stopped);
-    Ok(receipt)
+    Ok(stopped)
 }
 
-/// Takes the master's step that lets a node join. Returns the receipt of the step, and the node with
-/// a token of it.
+/// Takes the master's step that lets a node join, after all that the token has seen.
 fn join_book<N: Named>(
     alloc: Global,
     history: &StoreHistory<N>,
     book: &mut ChainBook<N>,
     id: NodeId,
-) -> Result<(Receipt, JoinedNode<N>), Refusal>
+    seen: StoreToken<N>,
+) -> Result<(Receipt, (JoinedNode<N>, StoreToken<N>)), Refusal>
     ensures step { TakesTransition book.old book.new (BookEvent.Join id) 0 (receipt_in result) }
-    ensures master { IfOk result (λ r. r.0.node ≡ 0) }
-    ensures joined { IfOk result (λ r. r.1 ≡ record { chain = book.old.opening.name.chain; node = id }) }
+    ensures joined { IfOk result (λ r. r.1.0 ≡ record { chain = book.old.opening.name.chain; node = id }) }
+    ensures ordered { IfOk result (λ r. IsWitnessedOrder seen book.old.opening.name.chain (BookEvent.Join id) r.0 r.1.1) }
     ensures refused { IfErr result (λ e. CanJoin e) }
 {
-    book.join(alloc, history, id)
+    book.join(alloc, history, id, seen)
 }
 
-/// Takes the master's step that removes a stopped node. Returns the receipt of the step.
+/// Takes the master's step that removes a stopped node, after all that the token and the node's stop
+/// have seen. Returns the receipt of the step, and a token that has seen it.
 fn remove_from_book<N: Named>(
     alloc: Global,
     history: &StoreHistory<N>,
     book: &mut ChainBook<N>,
     node: StoppedNode<N>,
-) -> Result<Receipt, Refusal>
+    seen: StoreToken<N>,
+) -> Result<(Receipt, StoreToken<N>), Refusal>
     requires { node.stopped.chain ≡ book.old.opening.name.chain }
-    ensures step { TakesTransition book.old book.new (BookEvent.Remove node.stopped node.stop) 0 result }
-    ensures master { IfOk result (λ receipt. receipt.node ≡ 0) }
+    ensures step { TakesTransition book.old book.new (BookEvent.Remove node.stopped node.stop) 0 (receipt_in result) }
+    ensures removed { IfOk result (λ r. IsWitnessedRemoval seen node.stopped r.0 r.1) }
     ensures refused { IfErr result (λ e. IsKeptIn e) }
 {
-    let (stopped, stop, token) = node.into_parts();
-    book.take(alloc, history, BookEvent::Remove { stopped, stop }, token)
+    let (stopped, stop, of_stop) = node.into_parts();
+    let mut seen = seen;
+    seen.learn(history, of_stop);
+    book.take(alloc, history, BookEvent::Remove { stopped, stop }, seen)
 }
 
-/// A node that waits for the master's step that lets it join: its desk, and its routing entry.
+/// A node that waits for the master's step that lets it join: its desk, its routing entry, and a
+/// token of what the step follows.
 #[derive(Drop)]
 struct Joining<C: Core + Named> {
     name: NodeName,
     desk: Desk<C>,
     route: Route<C>,
+    seen: StoreToken<C>,
 }
 
 /// A node that its chain's master let in: the proof of it, and the right to the node's entries.
@@ -258,23 +290,33 @@ struct Admitted<N: Named> {
     writer: StoreWriter<N>,
 }
 
+/// The master's step that let a node in: its receipt, a token that has seen it, and the node.
+type LetIn<N> = (Receipt, StoreToken<N>, Admitted<N>);
+
 /// Makes the parts of a node that joins (`Cell::open`), with stamps from this one on. Refused with
 /// `Memory` only.
 fn prepare_node<C: Core + Named>(
     alloc: Global,
     name: NodeName,
-    journal: bool,
+    form: Form,
     stamp: Stamp,
+    seen: StoreToken<C>,
 ) -> Result<Joining<C>, Refusal>
     requires { 1 ≤ name.node }
     ensures name { IfOk result (λ j. j.name ≡ name) }
+    ensures seen { IfOk result (λ j. j.seen ≡ seen) }
     ensures cell { IfOk result (λ j. IsUnjoined C.represents name j.desk.cell) }
     ensures err { IfErr result (λ e. e ≡ Refusal.Memory) }
 {
-    let cell = Cell::open(alloc, name, None, journal, stamp)?;
+    let cell = Cell::open(alloc, name, None, form.journal, stamp)?;
     let route = route_to(alloc, &name)?;
     let desk = Desk::new(alloc, cell);
-    Ok(Joining { name, desk, route })
+    Ok(Joining {
+        name,
+        desk,
+        route,
+        seen,
+    })
 }
 
 impl<C: Core + Named, G: Gate> Store<C, G> {
@@ -303,12 +345,13 @@ impl<C: Core + Named, G: Gate> Store<C, G> {
     }
 
     /// Sends a call to its node with a pass, and does not wait. Returns the reply to the call if it
-    /// is known at once, and else `None`. `ask` is the call's request.
+    /// is known at once, and else `None`. `ask` is the call's request. The caller runs no more of
+    /// the chain than its reach.
     ///
     /// After `None` exactly one completion with the caller's token comes into its queue: with the
     /// reply, or with `Stopped`, `Closed` or `Memory`, or, if the request was queued, with the
-    /// node's refusal. Of a reply that comes so nothing is proved but that a desk made it;
-    /// `Session::finish` tells whether it is of this call.
+    /// node's refusal. `finish_ask` tells of a reply whether it is of this call. `give_up_ask` tells
+    /// of a refusal whether a step may have accepted the call, and when the node refused it.
     ///
     /// Refused as `Client::call` is, and then no completion comes: with `UnknownChain` exactly if
     /// the store has no such chain.
@@ -317,15 +360,25 @@ impl<C: Core + Named, G: Gate> Store<C, G> {
         rt: &R,
         ask: &Ask,
         own: OwnAsk<'_, C>,
-    ) -> Result<Option<AnsweredCall<C>>, Refusal>
+        reach: Reach,
+    ) -> OwnReply<C>
         requires { own.made.ask ≡ ask.now }
         ensures unknown { (result ≡ Err Refusal.UnknownChain) ↔ (length self.now.names ≤ own.entry.made.name.chain) }
         ensures refused { IfErr result (λ e. RefusesAsk (length self.now.names) own.entry.made.name ask.now e) }
-        ensures taken { IfOk result (λ found. IfSome found (λ receipt. IsServed C.represents own.entry.made.name ask.now own.entry.caller.pass own.entry.caller.token (Some (Ok receipt)))) }
-        ensures left { IfErr result (λ e. (e ≡ Refusal.UnknownChain) ⊎ IsServed C.represents own.entry.made.name ask.now own.entry.caller.pass own.entry.caller.token (Some (Err e)) ⊎ IsMissed e) }
     {
-        let chain = self.shared.chain(own.made.name().chain)?;
-        self.shared.submit(rt, chain, ask, own)
+        let chain = match self.shared.chain(own.made.name().chain) {
+            Ok(chain) => chain,
+            Err(refusal) => return Err(refuse_own(own, refusal)),
+        };
+        self.shared.submit(rt, chain, ask, own, reach)
+    }
+
+    /// Takes the steps of the updates that were submitted with `Reach::WholeChainLater` and wait for
+    /// that, unless a chain's own thread takes them.
+    pub fn run_queued<R: Wait>(&self, rt: &R) {
+        for chain in self.shared.chains.as_slice() {
+            self.shared.run_queued(rt, chain);
+        }
     }
 
     /// Ticks all chains: each master, and each node that runs, sends again what others may lack.
@@ -440,60 +493,114 @@ impl<C: Core + Named + Send + 'static, G: Gate + Send + Sync + 'static> Store<C,
         Ok(())
     }
 
+    /// Returns a token that has seen nothing of the store's history yet.
+    fn no_token<R: Wait>(&self, rt: &R) -> StoreToken<C>
+        ensures { result ≡ [] }
+    {
+        let mut registrar = self.shared.registrar.lock(rt);
+        registrar.token(&self.shared.history)
+    }
+
     /// Stops a node forever, in a step on this thread. The callers that wait there are refused with
-    /// `Stopped`. Returns the receipt of the step.
+    /// `Stopped`. Returns the receipt of the step, and a token that has seen it: the store's history
+    /// has the step in which this node stopped, under this receipt (`IsWitnessedStop`).
     ///
     /// Refused, with nothing changed, for the first of these that applies: `UnknownChain` exactly
     /// if the store has no such chain; `WrongNode` if the chain never had the node, `Stopped` if it
     /// was removed and dropped; `Memory` when out of memory; then as `Cell::take` refuses a stop:
     /// `Exhausted` or `Memory`, `Stopped` if the node has stopped. `Closed` never comes, since
     /// `close` takes the store.
-    pub fn stop<R: Wait>(&self, rt: &R, chain: ChainId, node: NodeId) -> Result<Receipt, Refusal>
+    pub fn stop<R: Wait>(
+        &self,
+        rt: &R,
+        chain: ChainId,
+        node: NodeId,
+    ) -> Result<(Receipt, StoreToken<C>), Refusal>
         ensures unknown { (result ≡ Err Refusal.UnknownChain) ↔ (length self.now.names ≤ chain) }
         ensures refused { IfErr result (λ e. (e ≡ Refusal.UnknownChain) ⊎ CanStop e) }
+        ensures stopped { IfOk result (λ r. IsWitnessedStop [] (record { chain = chain; node = node }) r.0 r.1) }
     {
-        let node = self.shared.chain(chain)?.node(rt, node)?;
-        stop_node(rt, self.alloc, &self.shared.history, &node)
+        self.stop_after(rt, &NodeName { chain, node }, self.no_token(rt))
+    }
+
+    /// Stops a node as `stop` does, after all that the token has seen.
+    pub fn stop_after<R: Wait>(
+        &self,
+        rt: &R,
+        node: &NodeName,
+        seen: StoreToken<C>,
+    ) -> Result<(Receipt, StoreToken<C>), Refusal>
+        ensures unknown { (result ≡ Err Refusal.UnknownChain) ↔ (length self.now.names ≤ node.now.chain) }
+        ensures refused { IfErr result (λ e. (e ≡ Refusal.UnknownChain) ⊎ CanStop e) }
+        ensures stopped { IfOk result (λ r. IsWitnessedStop seen node.now r.0 r.1) }
+    {
+        let running = self.shared.chain(node.chain)?.node(rt, node.node)?;
+        if running.name != *node {
+            return Err(Refusal::WrongNode);
+        }
+        stop_node(rt, self.alloc, &self.shared.history, &running, seen)
     }
 
     /// Removes a stopped node from its chain's membership, and ends the node's own threads. Returns
-    /// the receipt of the master's step. A call at the node is refused as before.
+    /// the receipt of the master's step, and a token that has seen it: the store's history has the
+    /// step in which the master removed this node, under this receipt (`IsWitnessedRemoval`). A call
+    /// at the node is refused as before.
     ///
     /// Refused, with nothing changed, for the first of these that applies: `UnknownChain` exactly
     /// if the store has no such chain; `NotMember` if the node is no member; `Memory` when out of
     /// memory; `NotStopped` if it runs; then as `BookCell::take` refuses a removal: `Exhausted` or
     /// `Memory`, `LastNode` if it is the only member. `Closed` never comes, since `close` takes the
     /// store.
-    pub fn remove<R: Wait>(&self, rt: &R, chain: ChainId, node: NodeId) -> Result<Receipt, Refusal>
+    pub fn remove<R: Wait>(
+        &self,
+        rt: &R,
+        chain: ChainId,
+        node: NodeId,
+    ) -> Result<(Receipt, StoreToken<C>), Refusal>
         ensures unknown { (result ≡ Err Refusal.UnknownChain) ↔ (length self.now.names ≤ chain) }
         ensures refused { IfErr result (λ e. (e ≡ Refusal.UnknownChain) ⊎ CanRemove e) }
-        ensures master { IfOk result (λ receipt. receipt.node ≡ 0) }
+        ensures removed { IfOk result (λ r. IsWitnessedRemoval [] (record { chain = chain; node = node }) r.0 r.1) }
     {
-        let place = self.shared.chain(chain)?;
+        self.remove_after(rt, &NodeName { chain, node }, self.no_token(rt))
+    }
+
+    /// Removes a node as `remove` does, after all that the token has seen.
+    pub fn remove_after<R: Wait>(
+        &self,
+        rt: &R,
+        node: &NodeName,
+        seen: StoreToken<C>,
+    ) -> Result<(Receipt, StoreToken<C>), Refusal>
+        ensures unknown { (result ≡ Err Refusal.UnknownChain) ↔ (length self.now.names ≤ node.now.chain) }
+        ensures refused { IfErr result (λ e. (e ≡ Refusal.UnknownChain) ⊎ CanRemove e) }
+        ensures removed { IfOk result (λ r. IsWitnessedRemoval seen node.now r.0 r.1) }
+    {
+        let place = self.shared.chain(node.chain)?;
         let mut book = place.book.lock(rt);
-        if !is_among(book.cell().config().members.as_slice(), node) {
+        if !is_among(book.cell().config().members.as_slice(), node.node) {
             return Err(Refusal::NotMember);
         }
-        let member = place.node(rt, node)?;
+        let member = place.node(rt, node.node)?;
         let history = &self.shared.history;
         let Some(stopped) = member.stopped(rt, history) else {
             return Err(Refusal::NotStopped);
         };
-        if stopped.chain() != book.cell().opening().name.chain {
+        if stopped.name() != *node || book.cell().opening().name.chain != node.chain {
             return Err(Refusal::NotMember);
         }
-        let receipt = remove_from_book(self.alloc, history, &mut book, stopped)?;
+        let removed = remove_from_book(self.alloc, history, &mut book, stopped, seen)?;
         let sent = book.messages(self.alloc, history);
         drop(book);
-        place.retire(rt, node, self.form.journal);
+        place.retire(rt, node.node, self.form.after_removal());
         place.wake_up.change();
         refuse_queued(rt, &member, &Refusal::Stopped);
-        self.announce(rt, chain, sent);
-        Ok(receipt)
+        self.announce(rt, node.chain, sent);
+        Ok(removed)
     }
 
     /// Lets a new node join behind the last member, and starts its own threads, if nodes have any.
-    /// Returns the receipt of the master's step.
+    /// Returns the receipt of the master's step, and a token that has seen it: the store's history
+    /// has the step in which the master let this node join, under this receipt (`IsWitnessedJoin`).
     ///
     /// Refused, with the membership as it was and no thread of the node left, for the first of
     /// these that applies: `UnknownChain` exactly if the store has no such chain; `UsedId` if the
@@ -505,29 +612,44 @@ impl<C: Core + Named + Send + 'static, G: Gate + Send + Sync + 'static> Store<C,
         rt: R,
         chain: ChainId,
         node: NodeId,
-    ) -> Result<Receipt, Refusal>
+    ) -> Result<(Receipt, StoreToken<C>), Refusal>
         ensures unknown { (result ≡ Err Refusal.UnknownChain) ↔ (length self.now.names ≤ chain) }
         ensures refused { IfErr result (λ e. (e ≡ Refusal.UnknownChain) ⊎ CanJoin e) }
-        ensures master { IfOk result (λ receipt. receipt.node ≡ 0) }
+        ensures joined { IfOk result (λ r. IsWitnessedJoin [] (record { chain = chain; node = node }) r.0 r.1) }
         ensures zero { node ≡ 0 → chain < length self.now.names → result ≡ Err Refusal.UsedId }
     {
-        let place = self.shared.chain(chain)?;
+        self.join_after(rt, &NodeName { chain, node }, self.no_token(&rt))
+    }
+
+    /// Lets a node join as `join` does, after all that the token has seen. Refused with `Memory` also
+    /// if the lock holds the master of another chain.
+    pub fn join_after<R: Threads + Wait + Copy + Send + 'static>(
+        &self,
+        rt: R,
+        name: &NodeName,
+        seen: StoreToken<C>,
+    ) -> Result<(Receipt, StoreToken<C>), Refusal>
+        ensures unknown { (result ≡ Err Refusal.UnknownChain) ↔ (length self.now.names ≤ name.now.chain) }
+        ensures refused { IfErr result (λ e. (e ≡ Refusal.UnknownChain) ⊎ CanJoin e) }
+        ensures joined { IfOk result (λ r. IsWitnessedJoin seen name.now r.0 r.1) }
+        ensures zero { name.now.node ≡ 0 → name.now.chain < length self.now.names → result ≡ Err Refusal.UsedId }
+    {
+        let place = self.shared.chain(name.chain)?;
         let mut book = place.book.lock(&rt);
-        test_join(book.cell(), node)?;
-        let name = NodeName {
-            chain: book.cell().opening().name.chain,
-            node,
-        };
+        test_join(book.cell(), name.node)?;
+        if book.cell().opening().name.chain != name.chain {
+            return Err(Refusal::Memory);
+        }
         let stamp = next(book.cell().stamp())?;
         let mut hired = Vec::with_capacity(self.alloc, 2)?;
-        let joining = prepare_node(self.alloc, name, self.form.journal, stamp)?;
+        let joining = prepare_node(self.alloc, *name, self.form, stamp, seen)?;
         match self.join_opened(rt, place, &mut book, joining, &mut hired) {
-            Ok(receipt) => {
+            Ok(joined) => {
                 let sent = book.messages(self.alloc, &self.shared.history);
                 drop(book);
                 place.wake_up.change();
-                self.announce(&rt, chain, sent);
-                Ok(receipt)
+                self.announce(&rt, name.chain, sent);
+                Ok(joined)
             }
             Err(refusal) => {
                 for worker in hired {
@@ -569,17 +691,17 @@ impl<C: Core + Named + Send + 'static, G: Gate + Send + Sync + 'static> Store<C,
         book: &mut ChainBook<C>,
         joining: Joining<C>,
         hired: &mut Vec<JoinHandle<()>>,
-    ) -> Result<Receipt, Refusal>
+    ) -> Result<(Receipt, StoreToken<C>), Refusal>
         requires cell { IsUnjoined C.represents joining.name joining.desk.cell }
         requires chain { joining.name.chain ≡ book.old.opening.name.chain }
-        ensures step { OnOk result (TakesTransition book.old book.new (BookEvent.Join joining.name.node) 0 result) }
+        ensures joined { IfOk result (λ r. IsWitnessedJoin joining.seen joining.name r.0 r.1) }
         ensures refused { IfErr result (λ e. CanJoin e) }
-        ensures master { IfOk result (λ receipt. receipt.node ≡ 0) }
     {
-        match self.let_join(rt, place, book, &joining, hired) {
-            Ok((receipt, admitted)) => {
+        let mut joining = joining;
+        match self.let_join(rt, place, book, &mut joining, hired) {
+            Ok((receipt, token, admitted)) => {
                 self.seat(&rt, place, joining, admitted)?;
-                Ok(receipt)
+                Ok((receipt, token))
             }
             Err(refusal) => {
                 drop(joining);
@@ -595,15 +717,15 @@ impl<C: Core + Named + Send + 'static, G: Gate + Send + Sync + 'static> Store<C,
         rt: R,
         place: &Chain<C>,
         book: &mut ChainBook<C>,
-        joining: &Joining<C>,
+        joining: &mut Joining<C>,
         hired: &mut Vec<JoinHandle<()>>,
-    ) -> Result<(Receipt, Admitted<C>), Refusal>
-        requires { joining.now.name.chain ≡ book.old.opening.name.chain }
-        ensures step { OnOk result (TakesTransition book.old book.new (BookEvent.Join joining.now.name.node) 0 (receipt_in result)) }
+    ) -> Result<LetIn<C>, Refusal>
+        requires { joining.old.name.chain ≡ book.old.opening.name.chain }
+        ensures witnessed { IfOk result (λ r. IsWitnessedJoin joining.old.seen joining.old.name r.0 r.1) }
         ensures refused { IfErr result (λ e. CanJoin e) }
-        ensures master { IfOk result (λ r. r.0.node ≡ 0) }
-        ensures joined { IfOk result (λ r. r.1.joined ≡ joining.now.name) }
-        ensures right { IfOk result (λ r. (r.1.writer.author ≡ Author.Node joining.now.name.chain joining.now.name.node) × (r.1.writer.seen ≡ [])) }
+        ensures joined { IfOk result (λ r. r.2.joined ≡ joining.old.name) }
+        ensures right { IfOk result (λ r. (r.2.writer.author ≡ Author.Node joining.old.name.chain joining.old.name.node) × (r.2.writer.seen ≡ [])) }
+        ensures same { (joining.new.name ≡ joining.old.name) × (joining.new.desk ≡ joining.old.desk) }
     {
         self.hire_workers(rt, place, &joining.route, self.form.staff, hired)?;
         place.make_room(&rt)?;
@@ -611,13 +733,15 @@ impl<C: Core + Named + Send + 'static, G: Gate + Send + Sync + 'static> Store<C,
         registrar.make_room()?;
         let history = &self.shared.history;
         let name = joining.name;
-        let (receipt, joined) = join_book(self.alloc, history, book, name.node)?;
+        let seen = joining.seen.again(history);
+        let (receipt, (joined, token)) = join_book(self.alloc, history, book, name.node, seen)?;
         let writer = registrar.node(history, name.chain.get() as u64, name.node.get() as u64);
         drop(registrar);
         match writer {
-            Some(writer) => Ok((receipt, Admitted { joined, writer })),
+            Some(writer) => Ok((receipt, token, Admitted { joined, writer })),
             None => {
                 drop(joined);
+                drop(token);
                 Err(Refusal::Memory)
             }
         }
@@ -640,7 +764,9 @@ impl<C: Core + Named + Send + 'static, G: Gate + Send + Sync + 'static> Store<C,
             name: _,
             desk,
             route,
+            seen,
         } = joining;
+        drop(seen);
         let Admitted { joined, writer } = admitted;
         let desk = open_joined(&self.shared.history, desk, writer, joined);
         if let Some(node) = &route.node {

@@ -18,6 +18,6 @@ module _ {T R : Type 0} (finishes : Finishing T R) (phase : Phase) (q : CallRequ
       (subst (λ (x : Token). IsSubmitted (submits x) finishes q old came new) same submitted, may)
 
   -- its completion came
-  pub finished : (reply : Result R Refusal) (outcome : Result Called Refusal) → IsFinished finishes q reply old outcome new
+  pub finished : (reply : R) (outcome : Result Called Refusal) → IsFinished finishes q reply old outcome new
       → IsOutcome finishes phase reply old outcome new
   finished reply outcome so = subst (λ (x : Phase). IsOutcome finishes x reply old outcome new) (sym is) so

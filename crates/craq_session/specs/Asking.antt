@@ -2,7 +2,6 @@
 use Rattle.std.specs.Prelude.{◌≡◌, Option, None, Some, Result, Ok, Err, IfErr}
 use Rattle.craq_completions.specs.declared.token.Token.{Token}
 use Rattle.craq_names.specs.declared.refusal.Refusal.{Refusal}
-use Rattle.craq_names.specs.declared.refusal.Refusal.TheVariants.{Closed}
 use Rattle.craq_model.specs.declared.ask.Ask.{Ask}
 use Rattle.craq_pending_calls.specs.Refused.{CanRefuse}
 use Rattle.craq_seat.specs.Calls.{Called}
@@ -15,8 +14,8 @@ use Rattle.craq_session.specs.declared.call_request.CallRequest.{CallRequest}
 abbrev pub MayHaveAny : Refusing → CallRequest → Type 0
 MayHaveAny refuses q = (e : Refusal) → CanRefuse q.ask e → refuses q.node q.pass q.ask e
 
--- calls that were submitted in sessions: the session before, the request, its reply or refusal at once, if there was one, and the
--- session after
+-- calls that were submitted in sessions: the session before, the request, its immediate reply, if there was one, or the refusal of a call
+-- that was not made, and the session after
 abbrev pub Submitting : Type 0 → Type 0 → Type 1
 Submitting T R = T → CallRequest → Option (Result R Refusal) → T → Type 0
 
@@ -28,24 +27,15 @@ Finishing T R = T → CallRequest → R → Result Called Refusal → T → Type
 abbrev pub only_token : Token
 only_token = record { connection = 0; call = 0 }
 
--- the immediate reply to a call that was submitted: it, a refusal, or nothing, where a completion will come
+-- the immediate reply to a call that was submitted: it, the refusal of a call that was not made, or nothing, where a completion will come
 abbrev pub at_once : {R : Type 0} → Result (Option R) Refusal → Option (Result R Refusal)
 at_once (Ok None) = None
 at_once (Ok (Some reply)) = Some (Ok reply)
 at_once (Err e) = Some (Err e)
 
--- a call of this ask that came back refused is refused just so, where such an ask may be refused so; else what came back is
--- another call's, and it is refused as Closed
-pub record IsRefusedAs (ask : Ask) (came reported : Refusal) : Type 0 where
-  pub same : CanRefuse ask came → reported ≡ came
-  pub closed : ¬ (CanRefuse ask came) → reported ≡ Closed
-  pub can : CanRefuse ask reported
-
--- the outcome of a call by its completion: the session finished the call of the reply; or nothing happened in it, and the outcome is a
--- refusal that this request can produce
-abbrev pub IsFinished : {T R : Type 0} → Finishing T R → CallRequest → Result R Refusal → T → Result Called Refusal → T → Type 0
-IsFinished finishes q (Ok reply) old outcome new = finishes old q reply outcome new × IfErr outcome (λ e. e ≡ Closed)
-IsFinished finishes q (Err came) old outcome new = (reported : Refusal) × (outcome ≡ Err reported) × IsRefusedAs q.ask came reported × (new ≡ old)
+-- the outcome of a call by its reply: the session finished the call, and a refusal is one that this request can produce
+abbrev pub IsFinished : {T R : Type 0} → Finishing T R → CallRequest → R → T → Result Called Refusal → T → Type 0
+IsFinished finishes q reply old outcome new = finishes old q reply outcome new × IfErr outcome (λ e. CanRefuse q.ask e)
 
 -- the outcome of a call by its immediate reply: the session finished the call of the reply; or it is the refusal
 abbrev pub IsFinishedAtOnce : {T R : Type 0} → Finishing T R → CallRequest → Result R Refusal → T → Result Called Refusal → T → Type 0
@@ -77,12 +67,12 @@ IsAsked refuses calls (phases.Waits q) old came new = calls q old came new × Is
 IsAsked refuses calls phase old came new = (came ≡ None) × (new ≡ old)
 
 -- the outcome of the call that is under way by its completion; where none is under way nothing happened in the session
-abbrev pub IsOutcome : {T R : Type 0} → Finishing T R → Phase → Result R Refusal → T → Result Called Refusal → T → Type 0
+abbrev pub IsOutcome : {T R : Type 0} → Finishing T R → Phase → R → T → Result Called Refusal → T → Type 0
 IsOutcome finishes (phases.Waits q) reply old outcome new = IsFinished finishes q reply old outcome new
 IsOutcome finishes phase reply old outcome new = new ≡ old
 
 -- the call of a request in a session, from its submission to its outcome, which came at once or by a completion
 pub data HasCalled {T R : Type 0} (submits : Submitting T R) (finishes : Finishing T R) (q : CallRequest) (old : T) (outcome : Result Called Refusal) (new : T) : Type 0 where
   directly : IsSubmitted submits finishes q old (Some outcome) new → HasCalled submits finishes q old outcome new
-  by_completion : (mid : T) (reply : Result R Refusal) → IsSubmitted submits finishes q old None mid → IsFinished finishes q reply mid outcome new
+  by_completion : (mid : T) (reply : R) → IsSubmitted submits finishes q old None mid → IsFinished finishes q reply mid outcome new
       → HasCalled submits finishes q old outcome new

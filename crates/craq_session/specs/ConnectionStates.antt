@@ -95,11 +95,12 @@ abbrev pub IsUnderWay : Phase → Option CallRequest → Type 0
 IsUnderWay (phases.Waits q) found = found ≡ Some q
 IsUnderWay phase found = found ≡ None
 
--- the effect of a step, by the phase before it: a message had its turn, or its call is to be made; the next frame was looked for; or
--- nothing is to be done
+-- the effect of a step, by the phase before it: a message had its turn without a call, or its call is to be made; the next frame was
+-- looked for; or nothing is to be done
 abbrev pub Took : (List ℕ → Type 0) → Phase → Stepped → Phase → ProtocolCodec → ProtocolCodec → DoorCalls → DoorCalls → Type 0
 Took tells (phases.Asks m) steps.Goes q t u c d =
     (reply : ClientReply) × HasOneMore (phases.Asks m) t q u m reply × IsTurn tells for_memory c.keep_receipts c.receipts.items m reply d.receipts.items × MakesRoom c m (Reported reply) d × Continues q t u
+    × (d.receipts.items ≡ kept c.keep_receipts c.receipts.items)
 Took tells (phases.Asks m) (steps.Calls submit_token) (phases.Waits x) t u c d =
     (m ≡ asked_by x) × (x.node ≡ name_of x.node.node x.ask) × (d.receipts.items ≡ kept c.keep_receipts c.receipts.items) × MakesRoom c m (Calls x) d × (u ≡ t)
 Took tells phases.Idle stepped q t u c d = Found q stepped t u × HasNoMore phases.Idle t q u × (d ≡ c)

@@ -1,12 +1,10 @@
 //! The right to submit a call, which a step makes, and the outcome of the call: it comes at once, or
 //! by a completion.
 ghost use Rattle.std.specs.Prelude.{◌≡◌};
-ghost use Rattle.craq_session.specs.Asking.{IsFinished, IsRefusedAtOnce, IsSubmitted};
+ghost use Rattle.craq_session.specs.Asking.{IsRefusedAtOnce, IsSubmitted};
 
 use crate::{AsyncBackend, CallRequest};
 use craq_completions::{Outcome, Token};
-use craq_names::Refusal;
-use craq_pending_calls::refusal_of_call;
 
 /// A call that a step made (`Stepped::Calls`), or that a `CallDoor` makes and submits at once.
 /// Outside of this crate only `ConnectionState::ask` takes one. It is neither `Copy` nor `Drop`, so
@@ -49,7 +47,10 @@ pub struct SubmitToken {
 /// The load of a thread that asks calls.
 #[derive(Debug, Clone, Copy, PartialEq, Eq)]
 pub enum Load {
-    /// Few of its connections are busy.
+    /// One of its connections is busy: the call's steps may be taken at once.
+    Single,
+    /// Few of its connections are busy: the call's steps may wait until the calls of all of them
+    /// were submitted. The thread then has them taken (`LoopBackend::run_queued`).
     Light,
     /// More of them are busy.
     Full,
@@ -70,22 +71,5 @@ pub(crate) fn submit_call<B: AsyncBackend>(
         Ok(None) => None,
         Ok(Some(reply)) => Some(backend.finish(session, request, reply)),
         Err(refusal) => Some(Err(refusal)),
-    }
-}
-
-/// Returns the outcome of a call whose completion has this reply. The session finishes the call of
-/// a reply (`AsyncBackend::finish`). A refusal that such a request cannot have is another call's,
-/// and becomes `Closed`.
-pub(crate) fn finish_call<B: AsyncBackend>(
-    backend: &B,
-    session: &mut B::Session,
-    request: &CallRequest,
-    reply: Result<B::Reply, Refusal>,
-) -> Outcome
-    ensures { IsFinished (B.finishes backend.now) request.now reply session.old result session.new }
-{
-    match reply {
-        Ok(reply) => backend.finish(session, request, reply),
-        Err(refusal) => Err(refusal_of_call(&request.ask, refusal)),
     }
 }

@@ -5,6 +5,7 @@ ghost use Rattle.craq_completions.specs.declared.token.Token.{Token};
 ghost use Rattle.craq_model.specs.declared.ask.Ask.{Ask};
 ghost use Rattle.craq_names.specs.declared.name.NodeName.{NodeName};
 ghost use Rattle.craq_names.specs.declared.refusal.Refusal.{Refusal};
+ghost use Rattle.craq_pending_calls.specs.Refused.{CanRefuse};
 ghost use Rattle.craq_seat.specs.Calls.{Called};
 ghost use Rattle.craq_session.specs.Asking.{MayHaveAny, at_once};
 ghost use Rattle.craq_session.specs.declared.call_request.CallRequest.{CallRequest};
@@ -38,23 +39,25 @@ pub trait AsyncBackend: Backend {
     /// The session of a connection.
     type Session: Drop;
 
-    /// The reply to a call. Only `finish` takes the receipt out of it.
+    /// The reply to a call that was made: its answer, or its refusal. Only `finish` takes the
+    /// outcome out of it.
     type Reply: Drop;
 
     /// The calls that were submitted: the session before, the token of its completion, the request,
-    /// its reply or refusal at once, if there was one, and the session after.
+    /// its immediate reply, if there was one, or the refusal of a call that was not made, and the
+    /// session after.
     ghost submits: { Self → Token → Self.Session → CallRequest → Option (Result Self.Reply Refusal) → Self.Session → Type 0 };
 
     /// The calls that were finished: the session before, the request, the reply, the outcome, and
     /// the session after.
     ghost finishes: { Self → Self.Session → CallRequest → Self.Reply → Result Called Refusal → Self.Session → Type 0 };
 
-    /// Makes the call of a request in a session. Returns its reply where it is answered at once;
-    /// else `None`, and a completion with the token will come. No other call may have the token
-    /// until then.
+    /// Makes the call of a request in a session. Returns its reply if it comes at once; else
+    /// `None`, and a completion with the token will come. No other call may have the token until
+    /// then.
     ///
-    /// Refused only as this backend may refuse the call, and no completion comes then. A call that
-    /// is not refused at once may be refused later with any refusal of its kind of request.
+    /// Refused only as this backend may refuse the call: none is made then, and no completion
+    /// comes. A call that was made may be refused with any refusal of its kind of request.
     fn submit(
         &self,
         session: &mut Self::Session,
@@ -66,7 +69,7 @@ pub trait AsyncBackend: Backend {
         ensures submitted { submits self.now submit_token.token session.old request.now (at_once result) session.new };
 
     /// Finishes the call of a request in the session that made it. Returns the receipt of the
-    /// reply, or `Closed` if the reply is of another call.
+    /// answer, or a refusal that such a request can have: `Closed` if the reply is of another call.
     fn finish(
         &self,
         session: &mut Self::Session,
@@ -74,7 +77,7 @@ pub trait AsyncBackend: Backend {
         reply: Self::Reply,
     ) -> Result<CallReceipt, Refusal>
         ensures finished { finishes self.now session.old request.now reply result session.new }
-        ensures closed { IfErr result (λ e. e ≡ Refusal.Closed) };
+        ensures refused { IfErr result (λ e. CanRefuse request.now.ask e) };
 
     /// Notes that a call of the connection at this place is refused.
     fn refused(&self, slot: usize, refusal: Refusal);
@@ -83,5 +86,5 @@ pub trait AsyncBackend: Backend {
 /// A backend of one connection, which can wait for the completion of its call.
 pub trait BlockingBackend: AsyncBackend + Drop {
     /// Waits for the completion of the call that was submitted last, and returns its reply.
-    fn wait(&self) -> Result<Self::Reply, Refusal>;
+    fn wait(&self) -> Self::Reply;
 }

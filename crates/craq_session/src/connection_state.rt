@@ -4,7 +4,7 @@ ghost use Rattle.std.specs.Prelude.{◌≡◌, None};
 ghost use Rattle.craq_session.specs.declared.connection_state.Phase.TheVariants.{Idle};
 ghost use Rattle.craq_session.specs.ConnectionStates.{KeepsRoom};
 
-use crate::asking::{finish_call, submit_call};
+use crate::asking::submit_call;
 use crate::phases::{advance, answered};
 use crate::{AsyncBackend, Backend, CallRequest, DoorCalls, Load, UnsentCall};
 use craq_completions::{Outcome, Token};
@@ -216,11 +216,7 @@ impl<T> ConnectionState<T> {
     /// session finishes the call (`AsyncBackend::finish`). Nothing happens in it where no call is
     /// under way.
     #[tactic(auto, using(crate::proofs::Asked::finished))]
-    pub fn finish<B: AsyncBackend<Session = T>>(
-        &mut self,
-        backend: &B,
-        reply: Result<B::Reply, Refusal>,
-    ) -> Outcome
+    pub fn finish<B: AsyncBackend<Session = T>>(&mut self, backend: &B, reply: B::Reply) -> Outcome
         ensures outcome { IsOutcome (B.finishes backend.now) self.old.phase reply self.old.session result self.new.session }
         ensures phase { self.new.phase ≡ self.old.phase }
         ensures codec { self.new.codec ≡ self.old.codec }
@@ -230,7 +226,7 @@ impl<T> ConnectionState<T> {
             drop(reply);
             return Err(Refusal::Closed);
         };
-        finish_call(backend, &mut self.session, request, reply)
+        backend.finish(&mut self.session, request, reply)
     }
 
     /// Takes the outcome of the call that is under way: appends its reply or refusal to the unsent

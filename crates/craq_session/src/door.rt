@@ -5,7 +5,7 @@ ghost use Rattle.craq_session.specs.Asking.{HasCalled, only_token};
 ghost use Rattle.craq_session.specs.Halves.{HasAsked, IsFull, IsRefusable};
 ghost use Rattle.craq_session.specs.Turns.{IsTurn, kept, or_memory_where};
 
-use crate::asking::{finish_call, submit_call};
+use crate::asking::submit_call;
 use crate::call_request::{Begun, begin_turn, end_turn};
 use crate::{BlockingBackend, CallRequest, DoorCalls, Load, UnsentCall};
 use craq_completions::{Outcome, Token};
@@ -59,13 +59,13 @@ impl<C: BlockingBackend<Session = T>, T> CallDoor<C, T> {
         ensures calls { self.new.calls ≡ self.old.calls }
         ensures backend { self.new.backend ≡ self.old.backend }
     {
-        let submit_token = UnsentCall::new().make(ONLY, Load::Light);
+        let submit_token = UnsentCall::new().make(ONLY, Load::Single);
         let backend = &self.backend;
         match submit_call(backend, &mut self.session, submit_token, request) {
             Some(outcome) => outcome,
             None => {
                 let reply = backend.wait();
-                finish_call(backend, &mut self.session, request, reply)
+                backend.finish(&mut self.session, request, reply)
             }
         }
     }

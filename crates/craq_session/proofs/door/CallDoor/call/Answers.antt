@@ -9,4 +9,4 @@ returns-in-None-clause-called g c =
     by_completion c.submit_call.new.session c.wait-reply.result
     (subst (λ (x : Token). IsSubmitted (g.C.AsyncBackend.submits backend x) (g.C.AsyncBackend.finishes backend) c.args.request.now c.args.self.now.session None c.submit_call.new.session)
     c.make-submit_token.ensures c.in-None.ensures.submitted)
-    c.finish_call.ensures
+    (c.finish.ensures.finished, c.finish.ensures.refused)

@@ -19,20 +19,20 @@ use Rattle.craq_session.specs.declared.connection_state.Stepped.TheVariants as s
 use Rattle.craq_session.specs.declared.call_request.CallRequest.{CallRequest}
 use Rattle.craq_event_loop.specs.declared.connection.Connection.{Connection}
 use Rattle.craq_event_loop.specs.Advancing.{AsksBackend, ChangesSession, TakesSteps, none, step, call, TakesRound, rests, HasRound, HasRoundAt, next_call, under_key}
-use Rattle.craq_event_loop.specs.Belonging.{CameBack, CameByCompletion, KeepsSlot}
+use Rattle.craq_event_loop.specs.Belonging.{GetsOutcome, GetsCompletion, KeepsSlot}
 use Rattle.craq_session.proofs.Completions.{receipt_refusable, refusal_refusable}
 
 -- the state where an outcome came, before it is answered and after
-came_back : {T : Type 0} → (old mid new : ConnectionState T) (outcome : Result Called Refusal) → ChangesSession old mid → CameBack outcome mid new → CameBack outcome old new
+came_back : {T : Type 0} → (old mid new : ConnectionState T) (outcome : Result Called Refusal) → ChangesSession old mid → GetsOutcome outcome mid new → GetsOutcome outcome old new
 came_back old mid new outcome same came =
     subst (λ (p : Phase). AnswersCall p outcome new.phase old.codec new.codec old.calls new.calls) same.0
     (subst (λ (t : ProtocolCodec). AnswersCall mid.phase outcome new.phase t new.codec old.calls new.calls) same.1
     (subst (λ (c : DoorCalls). AnswersCall mid.phase outcome new.phase mid.codec new.codec c new.calls) same.2 came))
 
 -- a completion came, and was answered
-pub came_by_completion : {T R : Type 0} → (finishes : Finishing T R) (old mid new : ConnectionState T) (reply : Result R Refusal) (outcome : Result Called Refusal)
+pub came_by_completion : {T R : Type 0} → (finishes : Finishing T R) (old mid new : ConnectionState T) (reply : R) (outcome : Result Called Refusal)
     → IsOutcome finishes old.phase reply old.session outcome mid.session → mid.phase ≡ old.phase → mid.codec ≡ old.codec → mid.calls ≡ old.calls
-    → CameBack outcome mid new → new.session ≡ mid.session → CameByCompletion finishes reply old new
+    → GetsOutcome outcome mid new → new.session ≡ mid.session → GetsCompletion finishes reply old new
 came_by_completion {T} finishes old mid new reply outcome is phase codec calls came kept = (
   outcome,
   subst (λ (x : T). IsOutcome finishes old.phase reply old.session outcome x) (sym kept) is,
@@ -56,7 +56,7 @@ module _ {T : Type 0} (refuses : Refusing) (calls : Calling T) where
   -- this came at once
   pub came_at_once : (phase : Phase) (old mid new : ConnectionState T) (outcome : Result Called Refusal)
       → IsAsked refuses calls phase old.session (Some outcome) mid.session → mid.phase ≡ old.phase → mid.codec ≡ old.codec → mid.calls ≡ old.calls
-      → CameBack outcome mid new → new.session ≡ mid.session → AsksBackend refuses calls phase old new
+      → GetsOutcome outcome mid new → new.session ≡ mid.session → AsksBackend refuses calls phase old new
   came_at_once phases.Idle old mid new outcome is p t c came kept = cc
   came_at_once (phases.Asks m) old mid new outcome is p t c came kept = cc
   came_at_once (phases.Waits q) old mid new outcome is p t c came kept = inr (

@@ -1,19 +1,29 @@
 -- Laws of the bytes of a connection: where nothing was read or written, in a slab, and after events under one key after another.
-use Rattle.std.proofs.Common.{◌≡◌, ◌≢◌, ◌≤◌, ◌<◌, ℕ, zero, suc, ◌+◌, length, take, get_or, arith, length-append, true, List, [], ◌∷◌, ◌++◌, Option, Some, None, Result, inl, inr, sym, refl, subst, ◌∙◌}
+use Rattle.std.proofs.Common.{◌≡◌, ◌≢◌, ◌≤◌, ◌<◌, ℕ, zero, suc, ◌+◌, length, take, get_or, arith, length-append, true, List, [], ◌∷◌, ◌++◌, Option, Some, None, Result, Ok, Err, OnOk, OnErr, ◌⊎◌, ◌↔◌, inl, inr, sym, refl, subst, ◌∙◌}
 use Rattle.std.specs.Io.KnownBytes.{Appends, Consumes}
 use Rattle.std.proofs.lemmas.List.{append-nil, append_assoc, take_more}
 use Rattle.craq_session.specs.Asking.{Finishing}
 use Rattle.craq_session.specs.ConnectionStates.{Holds}
 use Rattle.craq_session.specs.declared.connection_state.ConnectionState.{ConnectionState}
-use Rattle.craq_names.specs.declared.refusal.Refusal.{Refusal}
-use Rattle.craq_seat.specs.Calls.{Called}
+use Rattle.craq_frames.specs.declared.ask.ClientMessage.{ClientMessage}
+use Rattle.craq_session.specs.declared.call_request.CallRequest.{CallRequest}
+use Rattle.craq_session.specs.declared.connection_state.Ending.TheVariants as endings
+use Rattle.craq_session.specs.declared.connection_state.Phase.{Phase}
+use Rattle.craq_session.specs.declared.connection_state.Phase.TheVariants as phases
 use Rattle.craq_completions.specs.declared.queue_state.Completion.{Completion}
 use Rattle.craq_completions.specs.declared.token.Token.{Token}
 use Rattle.slab.specs.Slab.{Slab, get, with_value}
 use Rattle.slab.proofs.SlabLemmas.{Updates-with_value}
 use Rattle.craq_event_loop.specs.declared.connection.Connection.{Connection}
 use Rattle.craq_event_loop.specs.declared.socket.Moved.TheVariants as moves
-use Rattle.craq_event_loop.specs.Belonging.{Alone, Delivers, DeliversAll, DeliversCompletion, Gives, GivesNow, Hears, HearsNow, OneByOne, OthersStay, Reads, StaysVacant, TakesCompletion, Wakes, Writes}
+use Rattle.craq_event_loop.specs.Belonging.{Alone, Delivers, DeliversAll, DeliversCompletion, SendsBytes, SendsNow, ReceivesBytes, ReceivesNow, OneByOne, OthersStay, Reads, StaysVacant, TakesCompletion, Wakes, Writes}
+
+-- bytes came where no call was under way
+pub heard_waits : {E : Type 0} (p r : Phase) (heard : Result (Unit {0}) E) → p ≡ phases.Idle → OnOk heard ((r ≡ phases.Idle) ⊎ ((m : ClientMessage) × (r ≡ phases.Asks m)))
+    → OnErr heard (r ≡ phases.Over endings.Memory) → (q : CallRequest) → r ≡ phases.Waits q ↔ p ≡ phases.Waits q
+heard_waits p r (Ok u) idle (inl is) err q = (λ here. (let no : phases.Idle ≡ phases.Waits q = sym is ∙ here in cc), λ here. (let no : phases.Idle ≡ phases.Waits q = sym idle ∙ here in cc))
+heard_waits p r (Ok u) idle (inr is) err q = (λ here. (let no : phases.Asks is.0 ≡ phases.Waits q = sym is.1 ∙ here in cc), λ here. (let no : phases.Idle ≡ phases.Waits q = sym idle ∙ here in cc))
+heard_waits p r (Err e) idle ok is q = (λ here. (let no : phases.Over endings.Memory ≡ phases.Waits q = sym is ∙ here in cc), λ here. (let no : phases.Idle ≡ phases.Waits q = sym idle ∙ here in cc))
 
 none_came : (a b : Option (List ℕ)) → b ≡ a → Consumes a b []
 none_came None b e = tt
@@ -31,6 +41,7 @@ nothing_came a b d e none is = rw is (
   none,
   record {
     heard = λ read written rounds h. subst (λ (x : List ℕ). Holds d.phase d.codec x written rounds) (sym (append-nil read)) h;
+    waits = λ q. (λ here. here, λ here. here);
     unsent = refl;
     calls = refl;
     session = refl;
@@ -62,27 +73,27 @@ some_taken (suc count) [] some few none = omega (arith, few)
 some_taken (suc count) (byte ∷ bytes) some few none = cc
 
 module _ {S T : Type 0} (now : ℕ) (old new : Connection S T) where
-  pub not_heard : new.heard ≡ old.heard → new.state ≡ old.state → HearsNow now old new
+  pub not_heard : new.heard ≡ old.heard → new.state ≡ old.state → ReceivesNow now old new
   not_heard same is = inl (same, is)
 
   pub heard_now : (count : ℕ) (bytes : List ℕ) → moves.Bytes count ≢ moves.Bytes 0 → count ≤ length bytes → new.heard ≡ now
-      → Hears (take count bytes) old.state new.state → HearsNow now old new
-  heard_now count bytes some few at hears = inr (at, take count bytes, some_taken count bytes some few, hears)
+      → ReceivesBytes (take count bytes) old.state new.state → ReceivesNow now old new
+  heard_now count bytes some few at receives = inr (at, take count bytes, some_taken count bytes some few, receives)
 
-  pub not_gave : new.heard ≡ old.heard → new.state ≡ old.state → GivesNow now old new
+  pub not_gave : new.heard ≡ old.heard → new.state ≡ old.state → SendsNow now old new
   not_gave same is = inl (same, is)
 
   pub gave_now : (count : ℕ) (bytes : List ℕ) → moves.Bytes count ≢ moves.Bytes 0 → count ≤ length bytes → new.heard ≡ now
-      → Gives (take count bytes) old.state new.state → GivesNow now old new
-  gave_now count bytes some few at gives = inr (at, take count bytes, some_taken count bytes some few, gives)
+      → SendsBytes (take count bytes) old.state new.state → SendsNow now old new
+  gave_now count bytes some few at sends = inr (at, take count bytes, some_taken count bytes some few, sends)
 
 -- a connection that takes a completion takes it, also if it is then marked as having something to do
-taken_busy : {S T R : Type 0} (finishes : Finishing T R) (number : ℕ) (reply : Result R Refusal) (c d : Connection S T) → TakesCompletion finishes number reply c d
+taken_busy : {S T R : Type 0} (finishes : Finishing T R) (number : ℕ) (reply : R) (c d : Connection S T) → TakesCompletion finishes number reply c d
     → TakesCompletion finishes number reply c (record d { busy = true })
 taken_busy finishes number reply c d takes = record { own = takes.own; another = takes.another; calls = takes.calls; stream = takes.stream; over = takes.over; readiness = takes.readiness; slot = takes.slot }
 
 -- the connection under the token's key takes the completion, and then has something to do
-pub delivered : {S T R : Type 0} (finishes : Finishing T R) (s t : Slab (Connection S T)) (token : Token) (c d : Connection S T) (reply : Result R Refusal)
+pub delivered : {S T R : Type 0} (finishes : Finishing T R) (s t : Slab (Connection S T)) (token : Token) (c d : Connection S T) (reply : R)
     → get s token.connection ≡ Some c → TakesCompletion finishes token.call reply c d → Wakes (with_value s token.connection d) t token.connection → Delivers finishes s t token reply
 delivered finishes s t token c d reply was takes wakes c' here =
     let e : c' ≡ c = cc in
@@ -91,39 +102,39 @@ delivered finishes s t token c d reply was takes wakes c' here =
 
 module _ {S T R : Type 0} (finishes : Finishing T R) where
   -- these completions are left, and those behind them are delivered
-  abbrev pub AreLeft : List (Completion (Result R Refusal)) → List (Completion (Result R Refusal)) → Slab (Connection S T) → Slab (Connection S T) → Type 0
-  AreLeft all left old new = (done : List (Completion (Result R Refusal))) × (all ≡ left ++ done) × DeliversAll finishes done old new
+  abbrev pub AreLeft : List (Completion R) → List (Completion R) → Slab (Connection S T) → Slab (Connection S T) → Type 0
+  AreLeft all left old new = (done : List (Completion R)) × (all ≡ left ++ done) × DeliversAll finishes done old new
 
-  pub all_left : (all : List (Completion (Result R Refusal))) (s : Slab (Connection S T)) → AreLeft all all s s
+  pub all_left : (all : List (Completion R)) (s : Slab (Connection S T)) → AreLeft all all s s
   all_left all s = ([], sym (append-nil all), refl)
 
-  pub one_less : (all left rest : List (Completion (Result R Refusal))) (completion : Completion (Result R Refusal)) (s t u : Slab (Connection S T))
+  pub one_less : (all left rest : List (Completion R)) (completion : Completion R) (s t u : Slab (Connection S T))
       → AreLeft all left s t → left ≡ rest ++ completion ∷ [] → DeliversCompletion finishes completion t u → AreLeft all rest s u
   one_less all left rest completion s t u before last delivers = (
     completion ∷ before.0,
-    before.1 ∙ subst (λ (x : List (Completion (Result R Refusal))). left ++ before.0 ≡ x ++ before.0) last refl ∙ append_assoc rest (completion ∷ []) before.0,
+    before.1 ∙ subst (λ (x : List (Completion R)). left ++ before.0 ≡ x ++ before.0) last refl ∙ append_assoc rest (completion ∷ []) before.0,
     (t, before.2, delivers),
   )
 
-  pub none_left : (all left : List (Completion (Result R Refusal))) (s t : Slab (Connection S T)) → AreLeft all left s t → left ≡ [] → DeliversAll finishes all s t
+  pub none_left : (all left : List (Completion R)) (s t : Slab (Connection S T)) → AreLeft all left s t → left ≡ [] → DeliversAll finishes all s t
   none_left all left s t before none =
-      subst (λ (x : List (Completion (Result R Refusal))). DeliversAll finishes x s t)
-      (sym (before.1 ∙ subst (λ (x : List (Completion (Result R Refusal))). left ++ before.0 ≡ x ++ before.0) none refl))
+      subst (λ (x : List (Completion R)). DeliversAll finishes x s t)
+      (sym (before.1 ∙ subst (λ (x : List (Completion R)). left ++ before.0 ≡ x ++ before.0) none refl))
       before.2
 
 -- as many completions as there were, one by one
-pub one_shorter : {R : Type 0} (left rest : List (Completion (Result R Refusal))) (completion : Completion (Result R Refusal)) (index all : ℕ) → left ≡ rest ++ completion ∷ [] → length left + index ≡ all → length rest + (index + 1) ≡ all
+pub one_shorter : {R : Type 0} (left rest : List (Completion R)) (completion : Completion R) (index all : ℕ) → left ≡ rest ++ completion ∷ [] → length left + index ≡ all → length rest + (index + 1) ≡ all
 one_shorter {R = R} left rest completion index all last long =
-    let is : length (rest ++ completion ∷ []) + index ≡ all = subst (λ (x : List (Completion (Result R Refusal))). length x + index ≡ all) last long in
+    let is : length (rest ++ completion ∷ []) + index ≡ all = subst (λ (x : List (Completion R)). length x + index ≡ all) last long in
     omega (arith, length-append rest (completion ∷ []), is)
 
-pub none_long : {R : Type 0} (left : List (Completion (Result R Refusal))) (index all : ℕ) → length left + index ≡ all → all ≤ index → left ≡ []
+pub none_long : {R : Type 0} (left : List (Completion R)) (index all : ℕ) → length left + index ≡ all → all ≤ index → left ≡ []
 none_long [] index all long reached = refl
 none_long (completion ∷ rest) index all long reached = absurd (omega (arith, long, reached))
 
 -- the last completion that was left, behind those that are left now
-pub last_left : {R : Type 0} (left popped rest : List (Completion (Result R Refusal))) (completion : Completion (Result R Refusal)) → left ≡ popped ++ completion ∷ [] → rest ≡ popped → left ≡ rest ++ completion ∷ []
-last_left {R = R} left popped rest completion is same = is ∙ subst (λ (x : List (Completion (Result R Refusal))). popped ++ completion ∷ [] ≡ x ++ completion ∷ []) (sym same) refl
+pub last_left : {R : Type 0} (left popped rest : List (Completion R)) (completion : Completion R) → left ≡ popped ++ completion ∷ [] → rest ≡ popped → left ≡ rest ++ completion ∷ []
+last_left {R = R} left popped rest completion is same = is ∙ subst (λ (x : List (Completion R)). popped ++ completion ∷ [] ≡ x ++ completion ∷ []) (sym same) refl
 
 module _ {S T : Type 0} (happens : Slab (Connection S T) → Slab (Connection S T) → ℕ → Type 0) where
   -- it happened under one key more, behind all before

@@ -1,10 +1,12 @@
 -- The list of the connections that have something to do, one step after another.
 use Rattle.std.proofs.Common.{◌≡◌, ◌≢◌, ◌≤◌, ◌<◌, ◌+◌, ◌↔◌, ◌⊎◌, ℕ, zero, suc, Bool, true, false, cond, List, [], ◌∷◌, ◌++◌, length, get_or, set, count_by, Contains, filter, length-append, take, length-take, Option, Some, None, is_some, Vec, vec_capacity, vec_len, refl, sym, ap, ◌∙◌, subst, inl, inr, arith}
 use Rattle.std.specs.List.{AllPairs}
+use Rattle.std.specs.VecDeque.{deque_capacity, deque_len}
+use Rattle.std.specs.declared.collections.VecDeque.{VecDeque}
 use Rattle.std.specs.declared.alloc.Global.{Global}
 use Rattle.std.proofs.lemmas.Bool.{cases_eq}
-use Rattle.std.proofs.lemmas.List.{append-nil, get_or-set_other, get_or-take, get_or_past, take_all}
-use Rattle.std.proofs.lemmas.List.Elements.{Contains-get_or, Contains-push, Contains-push_cases, Contains-append_left, filter_more}
+use Rattle.std.proofs.lemmas.List.{append-nil, append_assoc, get_or-set_other, get_or-take, get_or_past, take_all}
+use Rattle.std.proofs.lemmas.List.Elements.{Contains-get_or, Contains-push, Contains-push_cases, Contains-append_cases, Contains-append_left, Contains-append_right, filter-append, filter_more}
 use Rattle.std.proofs.lemmas.List.Kept.{AllPairs-filter}
 use Rattle.std.proofs.lemmas.List.Quantifiers.{all_pairs_push}
 use Rattle.std.proofs.lemmas.List.Sums.{count_by-le-length, length-filter, sum_by-cons, sum_by-set}
@@ -13,7 +15,7 @@ use Rattle.slab.proofs.SlabLemmas.{Contains-cons, Contains-cons_cases}
 use Rattle.craq_event_loop.specs.declared.connection.Connection.{Connection}
 use Rattle.craq_event_loop.specs.Belonging.{Alone, OneByOne, OthersStay, StaysVacant}
 use Rattle.craq_event_loop.specs.declared.event_loop.Members.{Members}
-use Rattle.craq_event_loop.specs.Busy.{HasNone, IsBehind, ListsBehind, ListsMarked, MarksBehind, NoneForgotten, is_marked}
+use Rattle.craq_event_loop.specs.Busy.{HasNone, IsBehind, ListsMarked, MarksBehind, NoneForgotten, is_marked}
 
 -- slots that are vacant in one list and in another are no more there
 module _ {T : Type 0} where
@@ -102,6 +104,9 @@ none_long (x ∷ xs) short = absurd (omega (arith, short))
 no_items : (keys : Vec ℕ Global) → vec_len keys ≡ 0 → keys.items ≡ []
 no_items keys none = none_long keys.items (let long : keys.len ≡ length keys.items = keys.ok.0 in omega (arith, long, none))
 
+none_waiting : (keys : VecDeque ℕ Global) → deque_len keys ≡ 0 → keys.items ≡ []
+none_waiting keys none = none_long keys.items (let long : keys.len ≡ length keys.items = keys.ok.0 in omega (arith, long, none))
+
 -- an index within the list finds the same key, whatever the default past its end
 found_at : (keys : List ℕ) (index key other : ℕ) → index < length keys → get_or keys index key ≡ key → get_or keys index other ≡ key
 found_at [] index key other within is = absurd (omega (arith, within))
@@ -113,6 +118,30 @@ before_it : (keys : List ℕ) (index key : ℕ) → AllPairs (λ x y. x ≢ y) k
 before_it keys index key once within listed same =
     let before : listed.0 < index = omega (arith, listed.1, length-take index keys) in
     once listed.0 index 0 before within (sym (get_or-take index keys listed.0 0 before) ∙ found_at (take index keys) listed.0 key 0 listed.1 listed.2 ∙ same)
+
+-- of two lists that name each key once together, the second does so alone, and a key of one is not in the other
+pub once_last : (xs ys : List ℕ) → AllPairs (λ x y. x ≢ y) (xs ++ ys) → AllPairs (λ x y. x ≢ y) ys
+once_last [] ys once = once
+once_last (x ∷ xs) ys once = once_last xs ys (λ i j d before within. once (suc i) (suc j) d (omega arith) (omega arith))
+
+pub in_one : (xs ys : List ℕ) (key : ℕ) → AllPairs (λ x y. x ≢ y) (xs ++ ys) → Contains xs key → Contains ys key → ⊥
+in_one [] ys key once listed listed_too = absurd (omega (arith, listed.1))
+in_one (x ∷ xs) ys key once listed listed_too =
+    elim (Contains-cons_cases x key xs listed) [
+      | inl same ↦ (
+          let there : Contains (xs ++ ys) key = Contains-append_right xs ys key listed_too in
+          once 0 (suc there.0) key (omega arith) (omega (arith, there.1)) (same ∙ sym there.2)
+          )
+      | inr later ↦ in_one xs ys key (λ i j d before within. once (suc i) (suc j) d (omega arith) (omega arith)) later listed_too
+    ]
+
+-- a filter that keeps all
+filter_all : {X : Type 0} (p : X → Bool) (xs : List X) → ((x : X) → Contains xs x → p x ≡ true) → filter p xs ≡ xs
+filter_all p [] all = refl
+filter_all p (x ∷ xs) all =
+    let rest : filter p xs ≡ xs = filter_all p xs (λ y listed. all y (Contains-cons x y xs listed)) in
+    let first : p x ≡ true = all x (0, omega arith, refl) in
+    rw (first, rest) refl
 
 module _ {S T : Type 0} where
   -- under each key a connection is there where one was, and is marked where it was
@@ -160,15 +189,14 @@ module _ {S T : Type 0} where
       untouched happens keys h.0 t key h.2 (λ listed. not (Contains-cons one key keys listed)) ∙ h.1.2 key (λ same. not (0, omega arith, sym same))
 
   -- the list stays right where the marks stay
-  pub listed_still : (s t : Slab (Connection S T)) (busy later : Vec ℕ Global) → MarksStay s t → ListsMarked s busy later → ListsMarked t busy later
-  listed_still s t busy later stay l =
+  pub listed_still : (s t : Slab (Connection S T)) (busy : Vec ℕ Global) (behind : VecDeque ℕ Global) → MarksStay s t → ListsMarked s busy behind → ListsMarked t busy behind
+  listed_still s t busy behind stay l =
       let less : slab_len t ≤ slab_len s = len-le s t (λ key is. sym (stay key).1 ∙ is) in
       record {
         marked = λ key. (λ listed. (stay key).0 ∙ (l.marked key).0 listed, λ is. (l.marked key).1 (sym (stay key).0 ∙ is));
         once = l.once;
-        none_later = l.none_later;
         room = omega (arith, l.room, less);
-        room_later = omega (arith, l.room_later, less);
+        room_behind = omega (arith, l.room_behind, less);
       }
 
   -- a connection that is marked is there
@@ -177,29 +205,31 @@ module _ {S T : Type 0} where
   marked_there (Some c) is = refl
 
   -- the list with a key that it does not name
-  one_key_more : (s : Slab (Connection S T)) (busy later : Vec ℕ Global) (key : ℕ) → ListsMarked s busy later → is_marked (get s key) ≡ false
-      → AllPairs (λ x y. x ≢ y) (busy.items ++ key ∷ [])
-  one_key_more s busy later key l unmarked =
-      all_pairs_push (λ x y. x ≢ y) busy.items key l.once
-      (λ k d within same. (let is : is_marked (get s key) ≡ true = (l.marked key).0 (subst (λ (x : ℕ). Contains busy.items x) same (Contains-get_or busy.items k d within)) in cc))
+  one_key_more : (s : Slab (Connection S T)) (busy : Vec ℕ Global) (behind : VecDeque ℕ Global) (key : ℕ) → ListsMarked s busy behind → is_marked (get s key) ≡ false
+      → AllPairs (λ x y. x ≢ y) ((behind.items ++ busy.items) ++ key ∷ [])
+  one_key_more s busy behind key l unmarked =
+      all_pairs_push (λ x y. x ≢ y) (behind.items ++ busy.items) key l.once
+      (λ k d within same. (let is : is_marked (get s key) ≡ true = (l.marked key).0 (subst (λ (x : ℕ). Contains (behind.items ++ busy.items) x) same (Contains-get_or (behind.items ++ busy.items) k d within)) in cc))
 
   -- there is room for the key of a connection that is not marked
-  pub has_room : (s : Slab (Connection S T)) (busy later : Vec ℕ Global) (key : ℕ) → ListsMarked s busy later → is_some (get s key) ≡ true → is_marked (get s key) ≡ false
+  pub has_room : (s : Slab (Connection S T)) (busy : Vec ℕ Global) (behind : VecDeque ℕ Global) (key : ℕ) → ListsMarked s busy behind → is_some (get s key) ≡ true → is_marked (get s key) ≡ false
       → length busy.items < vec_capacity busy
-  has_room s busy later key l here unmarked =
-      let found : (other : ℕ) → Contains (busy.items ++ key ∷ []) other → is_some (get s other) ≡ true =
-      λ other listed. elim (Contains-push_cases busy.items key other listed) [
+  has_room s busy behind key l here unmarked =
+      let found : (other : ℕ) → Contains ((behind.items ++ busy.items) ++ key ∷ []) other → is_some (get s other) ≡ true =
+      λ other listed. elim (Contains-push_cases (behind.items ++ busy.items) key other listed) [
         | inl before ↦ marked_there (get s other) ((l.marked other).0 before)
         | inr same ↦ subst (λ (x : ℕ). is_some (get s x) ≡ true) same here
       ] in
-      let long : length (busy.items ++ key ∷ []) ≤ slab_len s = keys-le (busy.items ++ key ∷ []) s.slots (one_key_more s busy later key l unmarked) found in
-      omega (arith, length-append busy.items (key ∷ []), long, l.room)
+      let long : length ((behind.items ++ busy.items) ++ key ∷ []) ≤ slab_len s = keys-le ((behind.items ++ busy.items) ++ key ∷ []) s.slots (one_key_more s busy behind key l unmarked) found in
+      omega (arith, length-append (behind.items ++ busy.items) (key ∷ []), length-append behind.items busy.items, long, l.room)
 
   -- a connection that was not marked is, and its key comes to the list
-  pub listed_more : (s t : Slab (Connection S T)) (busy more later : Vec ℕ Global) (key : ℕ) (c : Connection S T) → ListsMarked s busy later
+  pub listed_more : (s t : Slab (Connection S T)) (busy more : Vec ℕ Global) (behind : VecDeque ℕ Global) (key : ℕ) (c : Connection S T) → ListsMarked s busy behind
       → get s key ≡ Some c → c.busy ≡ false → is_marked (get t key) ≡ true → OthersStay s t key
-      → more.items ≡ busy.items ++ key ∷ [] → vec_capacity busy ≤ vec_capacity more → ListsMarked t more later
-  listed_more s t busy more later key c l was unmarked now others is grows =
+      → more.items ≡ busy.items ++ key ∷ [] → vec_capacity busy ≤ vec_capacity more → ListsMarked t more behind
+  listed_more s t busy more behind key c l was unmarked now others is_more grows =
+      let is : behind.items ++ more.items ≡ (behind.items ++ busy.items) ++ key ∷ [] =
+      ap (λ (x : List ℕ). behind.items ++ x) is_more ∙ sym (append_assoc behind.items busy.items (key ∷ [])) in
       let off : is_marked (get s key) ≡ false = rw was unmarked in
       let less : slab_len t ≤ slab_len s =
       len-le s t (λ other is. elim (cases_eq other key) [
@@ -208,7 +238,7 @@ module _ {S T : Type 0} where
       ]) in
       record {
         marked = λ other. (
-          λ listed. elim (Contains-push_cases busy.items key other (subst (λ (x : List ℕ). Contains x other) is listed)) [
+          λ listed. elim (Contains-push_cases (behind.items ++ busy.items) key other (subst (λ (x : List ℕ). Contains x other) is listed)) [
             | inl before ↦ elim (cases_eq other key) [
               | inl same ↦ subst (λ (k : ℕ). is_marked (get t k) ≡ true) (sym same) now
               | inr differs ↦ ap is_marked (others other differs) ∙ (l.marked other).0 before
@@ -216,14 +246,13 @@ module _ {S T : Type 0} where
             | inr same ↦ subst (λ (k : ℕ). is_marked (get t k) ≡ true) same now
           ],
           λ on. subst (λ (x : List ℕ). Contains x other) (sym is) (elim (cases_eq other key) [
-            | inl same ↦ subst (λ (k : ℕ). Contains (busy.items ++ key ∷ []) k) (sym same) (Contains-push busy.items key)
-            | inr differs ↦ Contains-append_left busy.items (key ∷ []) other ((l.marked other).1 (sym (ap is_marked (others other differs)) ∙ on))
+            | inl same ↦ subst (λ (k : ℕ). Contains ((behind.items ++ busy.items) ++ key ∷ []) k) (sym same) (Contains-push (behind.items ++ busy.items) key)
+            | inr differs ↦ Contains-append_left (behind.items ++ busy.items) (key ∷ []) other ((l.marked other).1 (sym (ap is_marked (others other differs)) ∙ on))
           ]),
         );
-        once = subst (λ (x : List ℕ). AllPairs (λ x y. x ≢ y) x) (sym is) (one_key_more s busy later key l off);
-        none_later = l.none_later;
+        once = subst (λ (x : List ℕ). AllPairs (λ x y. x ≢ y) x) (sym is) (one_key_more s busy behind key l off);
         room = omega (arith, l.room, less, grows);
-        room_later = omega (arith, l.room_later, less);
+        room_behind = omega (arith, l.room_behind, less);
       }
 
   -- a slab of marked connections behind stays one after an event, if a connection that changed is marked
@@ -238,11 +267,13 @@ module _ {S T : Type 0} where
   abbrev pub IsRightAt : Slab (Connection S T) → ℕ → Type 0
   IsRightAt t key = (d : Connection S T) → get t key ≡ Some d → d.busy ≡ true ↔ IsBehind d
 
-  was_listed : (s t : Slab (Connection S T)) (busy later : Vec ℕ Global) (key : ℕ) (b : Bool) → is_marked (get s key) ≡ b → ListsMarked s busy later
-      → (¬ (Contains busy.items key) → get t key ≡ get s key) → is_marked (get t key) ≡ true → Contains busy.items key
-  was_listed s t busy later key true is l same on = (l.marked key).1 is
-  was_listed s t busy later key false is l same on =
-      let stays : get t key ≡ get s key = same (λ listed. (let no : is_marked (get s key) ≡ true = (l.marked key).0 listed in cc)) in cc
+  was_listed : (s t : Slab (Connection S T)) (busy : Vec ℕ Global) (behind : VecDeque ℕ Global) (key : ℕ) (b : Bool) → is_marked (get s key) ≡ b → ListsMarked s busy behind
+      → (¬ (Contains busy.items key) → get t key ≡ get s key) → is_marked (get t key) ≡ true → Contains (behind.items ++ busy.items) key
+  was_listed s t busy behind key true is l same on = (l.marked key).1 is
+  was_listed s t busy behind key false is l same on =
+      let stays : get t key ≡ get s key =
+      same (λ listed. (let no : is_marked (get s key) ≡ true = (l.marked key).0 (Contains-append_right behind.items busy.items key listed) in cc)) in
+      cc
 
   module _ (happens : Slab (Connection S T) → Slab (Connection S T) → ℕ → Type 0) where
     -- where a mark is right it stays so, since each mark that is set is right
@@ -280,50 +311,51 @@ module _ {S T : Type 0} where
           | inr differs ↦ sym (ap is_some (h.1.2 key differs)) ∙ mid
         ]
 
-    -- the keys that the filter keeps of the busy list are those of the connections that are marked now
-    pub listed_after : (s t : Slab (Connection S T)) (busy later kept empty : Vec ℕ Global) → ListsMarked s busy later → OneByOne happens busy.items s t
-        → kept.items ≡ filter (λ key. is_marked (get t key)) busy.items → empty.items ≡ [] → vec_capacity later ≤ vec_capacity kept → vec_capacity busy ≤ vec_capacity empty
-        → ListsMarked t kept empty
-    listed_after s t busy later kept empty l h is none grows grows_too =
+    -- the keys that the filter keeps of both lists are those of the connections that are marked now
+    pub listed_after : (s t : Slab (Connection S T)) (busy empty : Vec ℕ Global) (behind kept : VecDeque ℕ Global) → ListsMarked s busy behind → OneByOne happens busy.items s t
+        → kept.items ≡ filter (λ key. is_marked (get t key)) (behind.items ++ busy.items) → empty.items ≡ [] → deque_capacity behind ≤ deque_capacity kept
+        → vec_capacity busy ≤ vec_capacity empty → ListsMarked t empty kept
+    listed_after s t busy empty behind kept l h is_kept none grows grows_too =
         let less : slab_len t ≤ slab_len s = len-le s t (λ key. none_comes busy.items s t key h) in
+        let is : kept.items ++ empty.items ≡ filter (λ key. is_marked (get t key)) (behind.items ++ busy.items) =
+        ap (λ (x : List ℕ). kept.items ++ x) none ∙ append-nil kept.items ∙ is_kept in
         record {
           marked = λ key. (
-            λ listed. (Contains-filter (λ k. is_marked (get t k)) busy.items key (subst (λ (x : List ℕ). Contains x key) is listed)).1,
-            λ on. subst (λ (x : List ℕ). Contains x key) (sym is) (Contains-to_filter (λ k. is_marked (get t k)) busy.items key
-                (was_listed s t busy later key (is_marked (get s key)) refl l (untouched happens busy.items s t key h) on) on),
+            λ listed. (Contains-filter (λ k. is_marked (get t k)) (behind.items ++ busy.items) key (subst (λ (x : List ℕ). Contains x key) is listed)).1,
+            λ on. subst (λ (x : List ℕ). Contains x key) (sym is) (Contains-to_filter (λ k. is_marked (get t k)) (behind.items ++ busy.items) key
+                (was_listed s t busy behind key (is_marked (get s key)) refl l (untouched happens busy.items s t key h) on) on),
           );
-          once = subst (λ (x : List ℕ). AllPairs (λ x y. x ≢ y) x) (sym is) (AllPairs-filter (λ x y. x ≢ y) (λ k. is_marked (get t k)) busy.items l.once);
-          none_later = none;
-          room = omega (arith, l.room_later, less, grows);
-          room_later = omega (arith, l.room, less, grows_too);
+          once = subst (λ (x : List ℕ). AllPairs (λ x y. x ≢ y) x) (sym is) (AllPairs-filter (λ x y. x ≢ y) (λ k. is_marked (get t k)) (behind.items ++ busy.items) l.once);
+          room = omega (arith, l.room, less, grows_too);
+          room_behind = omega (arith, l.room_behind, less, grows);
         }
 
-  -- all marks are right, where those under the keys of the list are, and else nothing changed
-  pub right_everywhere : (s t : Slab (Connection S T)) (busy later : Vec ℕ Global) → ListsMarked s busy later → MarksBehind s
-      → ((key : ℕ) → ¬ (Contains busy.items key) → get t key ≡ get s key) → ((key : ℕ) → Contains busy.items key → IsRightAt t key)
-      → (key : ℕ) → IsRightAt t key
-  right_everywhere s t busy later l behind same right key = by_mark (is_marked (get s key)) refl
+    -- the keys of the connections that wait are all kept, and those that the filter keeps of the busy list come after them
+    pub waiting_kept : (s t : Slab (Connection S T)) (busy : Vec ℕ Global) (behind : VecDeque ℕ Global) → ListsMarked s busy behind → OneByOne happens busy.items s t
+        → behind.items ++ filter (λ key. is_marked (get t key)) busy.items ≡ filter (λ key. is_marked (get t key)) (behind.items ++ busy.items)
+    waiting_kept s t busy behind l h =
+        let stay : (key : ℕ) → Contains behind.items key → is_marked (get t key) ≡ true =
+        λ key listed. ap is_marked (untouched happens busy.items s t key h (λ too. in_one behind.items busy.items key l.once listed too))
+        ∙ (l.marked key).0 (Contains-append_left behind.items busy.items key listed) in
+        sym (filter-append (λ key. is_marked (get t key)) behind.items busy.items
+        ∙ ap (λ (x : List ℕ). x ++ filter (λ key. is_marked (get t key)) busy.items) (filter_all (λ key. is_marked (get t key)) behind.items stay))
+
+  -- each connection that is behind is marked, if those under the keys of the busy list are so, and nothing else changed
+  pub behind_everywhere : (s t : Slab (Connection S T)) (busy : Vec ℕ Global) (behind : VecDeque ℕ Global) → ListsMarked s busy behind → MarksBehind s
+      → ((key : ℕ) → ¬ (Contains busy.items key) → get t key ≡ get s key) → ((key : ℕ) → Contains busy.items key → IsRightAt t key) → MarksBehind t
+  behind_everywhere s t busy behind l marks same right key d here is = by_mark (is_marked (get s key)) refl
     where
-      by_mark : (b : Bool) → is_marked (get s key) ≡ b → IsRightAt t key
-      by_mark true on = right key ((l.marked key).1 on)
+      as_before : (¬ (Contains busy.items key)) → d.busy ≡ true
+      as_before not = marks key d (sym (same key not) ∙ here) is
+
+      by_mark : (b : Bool) → is_marked (get s key) ≡ b → d.busy ≡ true
+      by_mark true on =
+          elim (Contains-append_cases behind.items busy.items key ((l.marked key).1 on)) [
+            | inl waits ↦ as_before (λ listed. in_one behind.items busy.items key l.once waits listed)
+            | inr listed ↦ (right key listed d here).1 is
+          ]
       by_mark false off =
-          let stays : get t key ≡ get s key = same key (λ listed. (let is : is_marked (get s key) ≡ true = (l.marked key).0 listed in cc)) in
-          λ d here. (
-          let was : get s key ≡ Some d = sym stays ∙ here in
-          (λ on. (let is : is_marked (get s key) ≡ d.busy = rw was refl in cc), λ is. behind key d was is)
-          )
-
-  marks_of : (t : Slab (Connection S T)) (key : ℕ) (o : Option (Connection S T)) → get t key ≡ o → IsRightAt t key → is_marked o ≡ true
-      → (c : Connection S T) × (get t key ≡ Some c) × IsBehind c
-  marks_of t key None is right on = cc
-  marks_of t key (Some c) is right on = (c, is, (right c is).0 on)
-
-  -- where all marks are right, the list names just the connections that are behind
-  pub lists_behind : (t : Slab (Connection S T)) (busy later : Vec ℕ Global) → ListsMarked t busy later → ((key : ℕ) → IsRightAt t key) → ListsBehind t busy.items
-  lists_behind t busy later l right key = (
-    λ listed. marks_of t key (get t key) refl (right key) ((l.marked key).0 listed),
-    λ is. (l.marked key).1 (let on : is.0.busy ≡ true = (right key is.0 is.1).1 is.2 in (ap is_marked is.1 ∙ on)),
-  )
+          as_before (λ listed. (let on : is_marked (get s key) ≡ true = (l.marked key).0 (Contains-append_right behind.items busy.items key listed) in cc))
 
   -- one key more was gone through, and is kept where its connection is marked now
   pub kept_more : (keys kept : List ℕ) (index : ℕ) (s t : Slab (Connection S T)) → AllPairs (λ x y. x ≢ y) keys → index < length keys
@@ -336,16 +368,55 @@ module _ {S T : Type 0} where
       (λ key listed. ap is_marked (others key (before_it keys index key once within listed))) in
       filter_more (λ key. is_marked (get t key)) keys index 0 within ∙ ap (λ (x : List ℕ). x ++ cond (is_marked (get t (get_or keys index 0))) (get_or keys index 0 ∷ []) []) (same ∙ sym is)
 
-  -- the list is no longer than there are connections
-  listed_len : (s : Slab (Connection S T)) (busy later : Vec ℕ Global) → ListsMarked s busy later → length busy.items ≤ slab_len s
-  listed_len s busy later l = keys-le busy.items s.slots l.once (λ key listed. marked_there (get s key) ((l.marked key).0 listed))
+  -- the lists are no longer than there are connections
+  listed_len : (s : Slab (Connection S T)) (busy : Vec ℕ Global) (behind : VecDeque ℕ Global) → ListsMarked s busy behind → length behind.items + length busy.items ≤ slab_len s
+  listed_len s busy behind l =
+      let long : length (behind.items ++ busy.items) ≤ slab_len s =
+      keys-le (behind.items ++ busy.items) s.slots l.once (λ key listed. marked_there (get s key) ((l.marked key).0 listed)) in
+      omega (arith, long, length-append behind.items busy.items)
 
   -- there is room for one key more of those that are kept
-  pub room_to_keep : (s : Slab (Connection S T)) (busy empty kept : Vec ℕ Global) (p : ℕ → Bool) (index : ℕ) → ListsMarked s busy empty → index < length busy.items
-      → kept.items ≡ filter p (take index busy.items) → vec_capacity empty ≤ vec_capacity kept → length kept.items < vec_capacity kept
-  room_to_keep s busy empty kept p index l within is grows =
-      let long : length kept.items ≡ count_by p (take index busy.items) = ap length is ∙ length-filter p (take index busy.items) in
-      omega (arith, long, count_by-le-length p (take index busy.items), length-take index busy.items, listed_len s busy empty l, l.room_later, grows)
+  pub room_to_keep : (s : Slab (Connection S T)) (busy : Vec ℕ Global) (behind kept : VecDeque ℕ Global) (p : ℕ → Bool) (index : ℕ) → ListsMarked s busy behind → index < length busy.items
+      → kept.items ≡ behind.items ++ filter p (take index busy.items) → deque_capacity behind ≤ deque_capacity kept → length kept.items < deque_capacity kept
+  room_to_keep s busy behind kept p index l within is grows =
+      let long : length kept.items ≡ length behind.items + count_by p (take index busy.items) =
+      ap length is ∙ length-append behind.items (filter p (take index busy.items)) ∙ ap (λ (n : ℕ). length behind.items + n) (length-filter p (take index busy.items)) in
+      omega (arith, long, count_by-le-length p (take index busy.items), length-take index busy.items, listed_len s busy behind l, l.room_behind, grows)
+
+  -- there is room for the first of the connections that wait
+  pub room_to_serve : (s : Slab (Connection S T)) (busy : Vec ℕ Global) (behind : VecDeque ℕ Global) → ListsMarked s busy behind → 1 ≤ length behind.items
+      → length busy.items < vec_capacity busy
+  room_to_serve s busy behind l some = omega (arith, listed_len s busy behind l, l.room, some)
+
+  -- the first of the connections that wait comes to the busy list
+  pub first_served : (s : Slab (Connection S T)) (busy more : Vec ℕ Global) (behind rest : VecDeque ℕ Global) (key : ℕ) → ListsMarked s busy behind
+      → behind.items ≡ key ∷ rest.items → more.items ≡ busy.items ++ key ∷ [] → vec_capacity busy ≤ vec_capacity more → deque_capacity rest ≡ deque_capacity behind
+      → ListsMarked s more rest
+  first_served s busy more behind rest key l is is_more grows same =
+      let old : behind.items ++ busy.items ≡ key ∷ (rest.items ++ busy.items) = ap (λ (x : List ℕ). x ++ busy.items) is in
+      let new : rest.items ++ more.items ≡ (rest.items ++ busy.items) ++ key ∷ [] =
+      ap (λ (x : List ℕ). rest.items ++ x) is_more ∙ sym (append_assoc rest.items busy.items (key ∷ [])) in
+      let once : AllPairs (λ x y. x ≢ y) (key ∷ (rest.items ++ busy.items)) = subst (λ (x : List ℕ). AllPairs (λ x y. x ≢ y) x) old l.once in
+      let tail : AllPairs (λ x y. x ≢ y) (rest.items ++ busy.items) = λ i j d before within. once (suc i) (suc j) d (omega arith) (omega arith) in
+      record {
+        marked = λ other. (
+          λ listed. (l.marked other).0 (subst (λ (x : List ℕ). Contains x other) (sym old)
+              (elim (Contains-push_cases (rest.items ++ busy.items) key other (subst (λ (x : List ℕ). Contains x other) new listed)) [
+                | inl before ↦ Contains-cons key other (rest.items ++ busy.items) before
+                | inr it ↦ subst (λ (k : ℕ). Contains (key ∷ (rest.items ++ busy.items)) k) it (0, omega arith, refl)
+              ])),
+          λ on. subst (λ (x : List ℕ). Contains x other) (sym new)
+              (elim (Contains-cons_cases key other (rest.items ++ busy.items) (subst (λ (x : List ℕ). Contains x other) old ((l.marked other).1 on))) [
+                | inl it ↦ subst (λ (k : ℕ). Contains ((rest.items ++ busy.items) ++ key ∷ []) k) it (Contains-push (rest.items ++ busy.items) key)
+                | inr later ↦ Contains-append_left (rest.items ++ busy.items) (key ∷ []) other later
+              ]),
+        );
+        once = subst (λ (x : List ℕ). AllPairs (λ x y. x ≢ y) x) (sym new)
+            (all_pairs_push (λ x y. x ≢ y) (rest.items ++ busy.items) key tail
+            (λ k d within same_key. once 0 (suc k) d (omega arith) (omega (arith, within)) (sym same_key)));
+        room = omega (arith, l.room, grows);
+        room_behind = omega (arith, l.room_behind, same);
+      }
 
   -- one key more is kept, and one is not
   pub one_kept : (keys kept more : List ℕ) (index key : ℕ) (s t : Slab (Connection S T)) → AllPairs (λ x y. x ≢ y) keys → index < length keys → key ≡ get_or keys index 0
@@ -368,19 +439,19 @@ module _ {S T : Type 0} where
       ∙ ap (λ (b : Bool). kept ++ cond b (get_or keys index 0 ∷ []) []) marked in
       sym (append-nil kept) ∙ sym whole
 
-  -- where there are no connections the list names none
-  none_listed : (s : Slab (Connection S T)) (busy later : Vec ℕ Global) → slab_len s ≡ 0 → busy.items ≡ [] → later.items ≡ [] → ListsMarked s busy later
-  none_listed s busy later none empty empty_too =
+  -- where there are no connections the lists name none
+  none_listed : (s : Slab (Connection S T)) (busy : Vec ℕ Global) (behind : VecDeque ℕ Global) → slab_len s ≡ 0 → busy.items ≡ [] → behind.items ≡ [] → ListsMarked s busy behind
+  none_listed s busy behind none empty empty_too =
       let vacant : (key : ℕ) → get s key ≡ None = none_there s.slots none in
+      let is : behind.items ++ busy.items ≡ [] = ap (λ (x : List ℕ). x ++ busy.items) empty_too ∙ empty in
       record {
         marked = λ key. (
-          λ listed. absurd (let at : Contains [] key = subst (λ (x : List ℕ). Contains x key) empty listed in omega (arith, at.1)),
+          λ listed. absurd (let at : Contains [] key = subst (λ (x : List ℕ). Contains x key) is listed in omega (arith, at.1)),
           λ on. (let off : is_marked (get s key) ≡ false = ap is_marked (vacant key) in cc),
         );
-        once = subst (λ (x : List ℕ). AllPairs (λ x y. x ≢ y) x) (sym empty) (λ i j d before within. absurd (omega (arith, within)));
-        none_later = empty_too;
+        once = subst (λ (x : List ℕ). AllPairs (λ x y. x ≢ y) x) (sym is) (λ i j d before within. absurd (omega (arith, within)));
         room = omega (arith, none);
-        room_later = omega (arith, none);
+        room_behind = omega (arith, none);
       }
 
   none_behind : (s : Slab (Connection S T)) → slab_len s ≡ 0 → MarksBehind s
@@ -389,36 +460,36 @@ module _ {S T : Type 0} where
   -- a thread that has no connections yet forgets none
   pub none_forgotten : {R : Type 0} (m : Members S T R) → HasNone m → NoneForgotten m
   none_forgotten m h = record {
-    listed = none_listed m.connections m.busy m.later h.0 (no_items m.busy h.1) (no_items m.later h.2);
+    listed = none_listed m.connections m.busy m.behind h.0 (no_items m.busy h.1) (none_waiting m.behind h.2);
     behind = none_behind m.connections h.0;
   }
 
   -- more room, and nothing else
-  pub listed_grown : (s t : Slab (Connection S T)) (busy later more_busy more_later : Vec ℕ Global) → ListsMarked s busy later → t.slots ≡ s.slots
-      → more_busy.items ≡ busy.items → more_later.items ≡ later.items → vec_capacity busy ≤ vec_capacity more_busy → vec_capacity later ≤ vec_capacity more_later
-      → ListsMarked t more_busy more_later
-  listed_grown s t busy later more_busy more_later l same is is_too grows grows_too =
+  pub listed_grown : (s t : Slab (Connection S T)) (busy more_busy : Vec ℕ Global) (behind more_behind : VecDeque ℕ Global) → ListsMarked s busy behind → t.slots ≡ s.slots
+      → more_busy.items ≡ busy.items → more_behind.items ≡ behind.items → vec_capacity busy ≤ vec_capacity more_busy → deque_capacity behind ≤ deque_capacity more_behind
+      → ListsMarked t more_busy more_behind
+  listed_grown s t busy more_busy behind more_behind l same is_busy is_behind grows grows_too =
       let at : (key : ℕ) → get t key ≡ get s key = λ key. ap (λ (x : List (Option (Connection S T))). get_or x key None) same in
       let long : slab_len t ≡ slab_len s = ap full same in
+      let is : more_behind.items ++ more_busy.items ≡ behind.items ++ busy.items = rw (is_busy, is_behind) refl in
       record {
         marked = λ key. (
           λ listed. ap is_marked (at key) ∙ (l.marked key).0 (subst (λ (x : List ℕ). Contains x key) is listed),
           λ on. subst (λ (x : List ℕ). Contains x key) (sym is) ((l.marked key).1 (sym (ap is_marked (at key)) ∙ on)),
         );
         once = subst (λ (x : List ℕ). AllPairs (λ x y. x ≢ y) x) (sym is) l.once;
-        none_later = is_too ∙ l.none_later;
         room = omega (arith, l.room, long, grows);
-        room_later = omega (arith, l.room_later, long, grows_too);
+        room_behind = omega (arith, l.room_behind, long, grows_too);
       }
 
   pub behind_same : (s t : Slab (Connection S T)) → ((key : ℕ) → get t key ≡ get s key) → MarksBehind s → MarksBehind t
   behind_same s t same marks key c here is = marks key c (sym (same key) ∙ here) is
 
   -- a connection that is not marked comes, and there is room for its key
-  pub listed_inserted : (s t : Slab (Connection S T)) (busy later : Vec ℕ Global) (key : ℕ) (c : Connection S T) → ListsMarked s busy later
-      → get s key ≡ None → get t key ≡ Some c → c.busy ≡ false → OthersStay s t key → slab_len t ≤ vec_capacity busy → slab_len t ≤ vec_capacity later
-      → ListsMarked t busy later
-  listed_inserted s t busy later key c l was is unmarked others room room_too =
+  pub listed_inserted : (s t : Slab (Connection S T)) (busy : Vec ℕ Global) (behind : VecDeque ℕ Global) (key : ℕ) (c : Connection S T) → ListsMarked s busy behind
+      → get s key ≡ None → get t key ≡ Some c → c.busy ≡ false → OthersStay s t key → slab_len t ≤ vec_capacity busy → slab_len t ≤ deque_capacity behind
+      → ListsMarked t busy behind
+  listed_inserted s t busy behind key c l was is unmarked others room room_too =
       let at : (other : ℕ) → is_marked (get t other) ≡ is_marked (get s other) =
       λ other. elim (cases_eq other key) [
         | inl same ↦ subst (λ (k : ℕ). is_marked (get t k) ≡ is_marked (get s k)) (sym same) (ap is_marked is ∙ unmarked ∙ sym (ap is_marked was))
@@ -427,7 +498,6 @@ module _ {S T : Type 0} where
       record {
         marked = λ other. (λ listed. at other ∙ (l.marked other).0 listed, λ on. (l.marked other).1 (sym (at other) ∙ on));
         once = l.once;
-        none_later = l.none_later;
         room = room;
-        room_later = room_too;
+        room_behind = room_too;
       }

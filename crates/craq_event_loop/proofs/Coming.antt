@@ -1,6 +1,8 @@
 -- The connections of a thread as some come, events tell of some, and some are left idle.
 use Rattle.std.proofs.Common.{◌≡◌, ◌≢◌, ◌≤◌, ◌<◌, ◌+◌, ◌++◌, ℕ, Bool, true, false, List, [], ◌∷◌, length, map, get_or, count_by, Option, Some, None, is_some, Result, Ok, Err, OnErr, OnOk, Vec, vec_capacity, refl, sym, ap, ◌∙◌, subst, inl, inr, arith}
+use Rattle.std.specs.VecDeque.{deque_capacity}
 use Rattle.std.specs.declared.alloc.Global.{Global}
+use Rattle.std.specs.declared.collections.VecDeque.{VecDeque}
 use Rattle.std.proofs.lemmas.Bool.{cases_eq, cases_lt}
 use Rattle.std.proofs.lemmas.List.{append_assoc, get_or_past, map-append}
 use Rattle.slab.specs.Slab.{SameValues, Slab, get, slab_len}
@@ -24,10 +26,10 @@ gone_on {X} {Y} f before x left rest all is next =
 
 module _ {S T : Type 0} where
   -- the list stays right where an event tells of a connection
-  pub listed_noticed : (s t : Slab (Connection S T)) (busy later : Vec ℕ Global) (key : ℕ) (event : Event) → ListsMarked s busy later
-      → NoticesAt event s t key → StaysVacant s t key → OthersStay s t key → ListsMarked t busy later
-  listed_noticed s t busy later key event l reported vacant others =
-      listed_still s t busy later
+  pub listed_noticed : (s t : Slab (Connection S T)) (busy : Vec ℕ Global) (behind : VecDeque ℕ Global) (key : ℕ) (event : Event) → ListsMarked s busy behind
+      → NoticesAt event s t key → StaysVacant s t key → OthersStay s t key → ListsMarked t busy behind
+  listed_noticed s t busy behind key event l reported vacant others =
+      listed_still s t busy behind
       (marks_alone s t key (λ c here. (record c { readiness = noticed c.readiness event }, reported c here, refl)) vacant others) l
 
   -- an event wakes its connection
@@ -51,10 +53,10 @@ module _ {S T : Type 0} where
       subst (λ (events : List Event). AllReported events s u) (sym (map-append event_of before (x ∷ []))) (reported_on (map event_of before) (event_of x) s t u reported now)
 
   -- the list stays right where it is looked whether a connection was left idle
-  pub listed_looked : (s t : Slab (Connection S T)) (busy later : Vec ℕ Global) (key now idle : ℕ) (reported : Bool) → ListsMarked s busy later
-      → LooksAt now idle reported s t key → StaysVacant s t key → OthersStay s t key → ListsMarked t busy later
-  listed_looked s t busy later key now idle reported l looks vacant others =
-      listed_still s t busy later
+  pub listed_looked : (s t : Slab (Connection S T)) (busy : Vec ℕ Global) (behind : VecDeque ℕ Global) (key now idle : ℕ) (reported : Bool) → ListsMarked s busy behind
+      → LooksAt now idle reported s t key → StaysVacant s t key → OthersStay s t key → ListsMarked t busy behind
+  listed_looked s t busy behind key now idle reported l looks vacant others =
+      listed_still s t busy behind
       (marks_alone s t key (λ c here. (record c { over = reported }, (looks c here).1, refl)) vacant others) l
 
   -- a connection that is not over is as it is said to be
@@ -124,12 +126,12 @@ module _ {S T : Type 0} where
       ]
 
   -- a connection that is not marked came, and there is room for its key
-  pub listed_more_room : (s t u : Slab (Connection S T)) (busy later more_busy more_later : Vec ℕ Global) (key : ℕ) (c : Connection S T) → ListsMarked s busy later
-      → t.slots ≡ s.slots → more_busy.items ≡ busy.items → more_later.items ≡ later.items → vec_capacity busy ≤ vec_capacity more_busy
-      → vec_capacity later ≤ vec_capacity more_later → get t key ≡ None → get u key ≡ Some c → c.busy ≡ false → OthersStay t u key
-      → slab_len u ≤ vec_capacity more_busy → slab_len u ≤ vec_capacity more_later → ListsMarked u more_busy more_later
-  listed_more_room s t u busy later more_busy more_later key c l same is is_too grows grows_too was here unmarked others room room_too =
-      listed_inserted t u more_busy more_later key c (listed_grown s t busy later more_busy more_later l same is is_too grows grows_too)
+  pub listed_more_room : (s t u : Slab (Connection S T)) (busy more_busy : Vec ℕ Global) (behind more_behind : VecDeque ℕ Global) (key : ℕ) (c : Connection S T) → ListsMarked s busy behind
+      → t.slots ≡ s.slots → more_busy.items ≡ busy.items → more_behind.items ≡ behind.items → vec_capacity busy ≤ vec_capacity more_busy
+      → deque_capacity behind ≤ deque_capacity more_behind → get t key ≡ None → get u key ≡ Some c → c.busy ≡ false → OthersStay t u key
+      → slab_len u ≤ vec_capacity more_busy → slab_len u ≤ deque_capacity more_behind → ListsMarked u more_busy more_behind
+  listed_more_room s t u busy more_busy behind more_behind key c l same is is_too grows grows_too was here unmarked others room room_too =
+      listed_inserted t u more_busy more_behind key c (listed_grown s t busy more_busy behind more_behind l same is is_too grows grows_too)
       was here unmarked others room room_too
 
   -- where nothing but its room changed, a slab has the same slots, and as many connections
@@ -161,3 +163,9 @@ module _ {S T : Type 0} where
       → OnErr came (ChangesRoom m n) → NoneForgotten m → PresentStay m.connections n.connections
   stays_either stream session slot receipts m n (Ok u) taken grown k = stays_taken stream session slot receipts m n (taken k)
   stays_either stream session slot receipts m n (Err e) taken grown k = stays_grown m n grown
+
+  -- those with work left wait as they did, whether a connection was taken in or not
+  pub waits_either : {R E : Type 0} (stream : S) (session : T) (slot receipts : ℕ) (m n : Members S T R) (came : Result (Unit {0}) E) → OnOk came (NoneForgotten m → TakesIn stream session slot receipts m n)
+      → OnErr came (ChangesRoom m n) → NoneForgotten m → n.behind.items ≡ m.behind.items
+  waits_either stream session slot receipts m n (Ok u) taken grown k = (taken k).behind
+  waits_either stream session slot receipts m n (Err e) taken grown k = grown.behind

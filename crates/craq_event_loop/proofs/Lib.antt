@@ -5,5 +5,7 @@ pub mod Coming
 pub mod Ending
 pub mod Marks
 pub mod Numbers
+pub mod Reaching
+pub mod Rounds
 pub mod Serving
 pub mod Starved

@@ -1,9 +1,11 @@
 -- The marks of connections that are served or woken, and the list of those that are.
 use Rattle.std.proofs.Common.{◌≡◌, ◌≤◌, ◌<◌, ◌↔◌, ◌≢◌, ◌+◌, ◌==◌, ℕ, Bool, true, false, not, List, [], ◌∷◌, ◌++◌, length, get_or, take, Option, Some, None, if◌then◌else◌, filter, Contains, Vec, vec_capacity, refl, sym, ap, ◌∙◌, subst, arith}
 use Rattle.std.specs.List.{AllPairs}
+use Rattle.std.specs.VecDeque.{deque_capacity}
+use Rattle.std.specs.declared.collections.VecDeque.{VecDeque}
 use Rattle.std.specs.declared.alloc.Global.{Global}
 use Rattle.std.proofs.lemmas.Bool.Decides.{nat_tests}
-use Rattle.std.proofs.lemmas.List.{take_all}
+use Rattle.std.proofs.lemmas.List.{append-nil, append_assoc, take_all}
 use Rattle.slab.specs.Slab.{Slab, get, with_value}
 use Rattle.slab.proofs.SlabLemmas.{Updates-with_value}
 use Rattle.craq_completions.specs.declared.token.Token.{Token}
@@ -12,13 +14,18 @@ use Rattle.craq_session.specs.Turns.{Refusing}
 use Rattle.craq_event_loop.specs.declared.connection.Connection.{Connection}
 use Rattle.craq_event_loop.specs.Advancing.{HasRoundAt, TakeRounds, most_steps}
 use Rattle.craq_event_loop.specs.Belonging.{Alone, OneByOne, OthersStay, StaysVacant, Wakes}
-use Rattle.craq_event_loop.specs.Busy.{IsBehind, ListsBehind, ListsMarked, MarksBehind, is_marked, with_key}
+use Rattle.craq_event_loop.specs.Busy.{IsBehind, ListsMarked, MarksBehind, MarksJustBehind, NoneForgotten, Rests, is_marked, with_key}
 use Rattle.craq_event_loop.specs.Serving.{ReadsAt, StaysUnlessDone, WritesAt}
-use Rattle.craq_event_loop.proofs.Busy.{IsRightAt, KeepsMarks, all_kept, behind_still, has_room, listed_after, listed_more, listed_still, marks_alone, marks_kept, marks_then, one_kept, one_left_out, right_after, right_everywhere, room_to_keep, untouched}
+use Rattle.craq_event_loop.specs.declared.event_loop.Members.{Members}
+use Rattle.craq_event_loop.proofs.Busy.{IsRightAt, KeepsMarks, behind_everywhere, behind_still, has_room, listed_after, listed_more, listed_still, marks_alone, marks_kept, marks_then, once_last, one_kept, one_left_out, right_after, room_to_keep, untouched, waiting_kept}
 
 pub was_off : (reported mark : Bool) → reported ≡ not mark → reported ≡ true → mark ≡ false
 was_off reported true is on = cc
 was_off reported false is on = refl
+
+pub was_on : (reported mark : Bool) → reported ≡ not mark → reported ≡ false → mark ≡ true
+was_on reported true is off = refl
+was_on reported false is off = cc
 
 pub pushed : (ok : Bool) (old more new : List ℕ) → new ≡ (if ok then more else old) → ok ≡ true → new ≡ more
 pushed ok old more new is on = rw on at is
@@ -34,28 +41,28 @@ module _ {S T : Type 0} where
   found_with s key c d was = (Updates-with_value s key d (rw was refl)).changed
 
   -- a connection that changes and keeps its mark
-  pub same_listed : (s : Slab (Connection S T)) (busy later : Vec ℕ Global) (key : ℕ) (c d : Connection S T) → ListsMarked s busy later
-      → get s key ≡ Some c → d.busy ≡ c.busy → ListsMarked (with_value s key d) busy later
-  same_listed s busy later key c d l was same =
+  pub same_listed : (s : Slab (Connection S T)) (busy : Vec ℕ Global) (behind : VecDeque ℕ Global) (key : ℕ) (c d : Connection S T) → ListsMarked s busy behind
+      → get s key ≡ Some c → d.busy ≡ c.busy → ListsMarked (with_value s key d) busy behind
+  same_listed s busy behind key c d l was same =
       let kept : (e : Connection S T) → get s key ≡ Some e → (f : Connection S T) × (get (with_value s key d) key ≡ Some f) × (f.busy ≡ e.busy) =
       λ e here. (let is : e ≡ c = cc in (d, found_with s key c d was, same ∙ sym (ap (λ (x : Connection S T). x.busy) is))) in
       let vacant : StaysVacant s (with_value s key d) key = λ none. cc in
-      listed_still s (with_value s key d) busy later (marks_alone s (with_value s key d) key kept vacant (others_with s key c d was)) l
+      listed_still s (with_value s key d) busy behind (marks_alone s (with_value s key d) key kept vacant (others_with s key c d was)) l
 
   -- a connection that was not marked is, and its key is pushed
-  pub more_listed : (s : Slab (Connection S T)) (busy more later : Vec ℕ Global) (key : ℕ) (c d : Connection S T) → ListsMarked s busy later
+  pub more_listed : (s : Slab (Connection S T)) (busy more : Vec ℕ Global) (behind : VecDeque ℕ Global) (key : ℕ) (c d : Connection S T) → ListsMarked s busy behind
       → get s key ≡ Some c → c.busy ≡ false → d.busy ≡ true → more.items ≡ busy.items ++ key ∷ [] → vec_capacity busy ≤ vec_capacity more
-      → ListsMarked (with_value s key d) more later
-  more_listed s busy more later key c d l was unmarked marked is grows =
-      listed_more s (with_value s key d) busy more later key c l was unmarked (ap is_marked (found_with s key c d was) ∙ marked) (others_with s key c d was) is grows
+      → ListsMarked (with_value s key d) more behind
+  more_listed s busy more behind key c d l was unmarked marked is grows =
+      listed_more s (with_value s key d) busy more behind key c l was unmarked (ap is_marked (found_with s key c d was) ∙ marked) (others_with s key c d was) is grows
 
   pub marked_by : (c d : Connection S T) → d ≡ record c { busy = true } → d.busy ≡ true
   marked_by c d is = ap (λ (x : Connection S T). x.busy) is
 
   -- a push for which there is room
-  pub room_to_wake : (s : Slab (Connection S T)) (busy later : Vec ℕ Global) (key : ℕ) (c : Connection S T) → ListsMarked s busy later
+  pub room_to_wake : (s : Slab (Connection S T)) (busy : Vec ℕ Global) (behind : VecDeque ℕ Global) (key : ℕ) (c : Connection S T) → ListsMarked s busy behind
       → get s key ≡ Some c → c.busy ≡ false → length busy.items < vec_capacity busy
-  room_to_wake s busy later key c l was unmarked = has_room s busy later key l (rw was refl) (rw was unmarked)
+  room_to_wake s busy behind key c l was unmarked = has_room s busy behind key l (rw was refl) (rw was unmarked)
 
   -- the list with the key of a connection that was not marked, and of one that was
   pub key_comes : (keys : List ℕ) (key : ℕ) (o : Option (Connection S T)) (c : Connection S T) → o ≡ Some c → c.busy ≡ false → with_key keys key o ≡ keys ++ key ∷ []
@@ -64,63 +71,68 @@ module _ {S T : Type 0} where
   pub keys_stay : (keys : List ℕ) (key : ℕ) (o : Option (Connection S T)) (c : Connection S T) → o ≡ Some c → c.busy ≡ true → with_key keys key o ≡ keys
   keys_stay keys key o c was marked = rw (was, marked) refl
 
-  -- where the list names the connections that are behind, and names none, none is
-  pub none_is_behind : (s : Slab (Connection S T)) (busy : Vec ℕ Global) (key : ℕ) (c : Connection S T) → ListsBehind s busy.items → busy.len ≡ 0
-      → get s key ≡ Some c → IsBehind c → ⊥
-  none_is_behind s busy key c l none here is =
-      let listed : Contains busy.items key = (l key).1 (c, here, is) in
-      let long : busy.len ≡ length busy.items = busy.ok.0 in
-      omega (arith, listed.1, none, long)
+  -- where the lists name the connections that are marked, each that is behind is, and the lists name none, none is behind
+  pub none_is_behind : {P : Type 0} (m : Members S T P) (key : ℕ) (c : Connection S T) → NoneForgotten m → Rests m → get m.connections key ≡ Some c → IsBehind c → ⊥
+  none_is_behind m key c k rests here is =
+      let on : is_marked (get m.connections key) ≡ true = ap is_marked here ∙ k.behind key c here is in
+      let none : m.behind.items ++ m.busy.items ≡ [] = ap (λ (x : List ℕ). x ++ m.busy.items) rests.1 ∙ rests.0 in
+      let listed : Contains [] key = subst (λ (x : List ℕ). Contains x key) none ((k.listed.marked key).1 on) in
+      omega (arith, listed.1)
 
   -- one key more was gone through, and was kept or not
-  pub kept_or_not : (keys kept more : List ℕ) (index key : ℕ) (s t : Slab (Connection S T)) (reported : Bool) → AllPairs (λ x y. x ≢ y) keys → index < length keys
-      → key ≡ get_or keys index 0 → kept ≡ filter (λ k. is_marked (get s k)) (take index keys) → OthersStay s t key → reported ≡ is_marked (get t key)
-      → more ≡ (if reported then kept ++ key ∷ [] else kept) → more ≡ filter (λ k. is_marked (get t k)) (take (index + 1) keys)
-  kept_or_not keys kept more index key s t true once within at is others tells now = one_kept keys kept more index key s t once within at is others (sym tells) now
-  kept_or_not keys kept more index key s t false once within at is others tells now =
-      subst (λ (x : List ℕ). x ≡ filter (λ k. is_marked (get t k)) (take (index + 1) keys)) (sym now) (one_left_out keys kept index key s t once within at is others (sym tells))
+  pub kept_or_not : (first keys kept more : List ℕ) (index key : ℕ) (s t : Slab (Connection S T)) (reported : Bool) → AllPairs (λ x y. x ≢ y) keys → index < length keys
+      → key ≡ get_or keys index 0 → kept ≡ first ++ filter (λ k. is_marked (get s k)) (take index keys) → OthersStay s t key → reported ≡ is_marked (get t key)
+      → more ≡ (if reported then kept ++ key ∷ [] else kept) → more ≡ first ++ filter (λ k. is_marked (get t k)) (take (index + 1) keys)
+  kept_or_not first keys kept more index key s t true once within at is others tells now =
+      let some : List ℕ = filter (λ k. is_marked (get s k)) (take index keys) in
+      let one : some ++ key ∷ [] ≡ filter (λ k. is_marked (get t k)) (take (index + 1) keys) =
+      one_kept keys some (some ++ key ∷ []) index key s t once within at refl others (sym tells) refl in
+      now ∙ ap (λ (x : List ℕ). x ++ key ∷ []) is ∙ append_assoc first some (key ∷ []) ∙ ap (λ (x : List ℕ). first ++ x) one
+  kept_or_not first keys kept more index key s t false once within at is others tells now =
+      let some : List ℕ = filter (λ k. is_marked (get s k)) (take index keys) in
+      let same : some ≡ filter (λ k. is_marked (get t k)) (take (index + 1) keys) =
+      one_left_out keys some index key s t once within at refl others (sym tells) in
+      now ∙ is ∙ ap (λ (x : List ℕ). first ++ x) same
 
-  -- the keys kept of the busy list so far are those of marked connections, and there is room for them
-  pub record KeptSoFar (s t : Slab (Connection S T)) (busy later kept : Vec ℕ Global) (keys : List ℕ) (index : ℕ) : Type 0 where
-    pub are : kept.items ≡ filter (λ key. is_marked (get t key)) (take index keys)
-    pub grows : vec_capacity later ≤ vec_capacity kept
+  -- behind those that waited come those of the busy list so far that are marked, and there is room for them
+  pub record KeptSoFar (t : Slab (Connection S T)) (behind kept : VecDeque ℕ Global) (keys : List ℕ) (index : ℕ) : Type 0 where
+    pub are : kept.items ≡ behind.items ++ filter (λ key. is_marked (get t key)) (take index keys)
+    pub grows : deque_capacity behind ≤ deque_capacity kept
 
-  pub none_kept : (s : Slab (Connection S T)) (busy later : Vec ℕ Global) (keys : List ℕ) → ListsMarked s busy later → KeptSoFar s s busy later later keys 0
-  none_kept s busy later keys l = record { are = l.none_later; grows = omega arith }
+  pub none_kept : (s : Slab (Connection S T)) (behind : VecDeque ℕ Global) (keys : List ℕ) → KeptSoFar s behind behind keys 0
+  none_kept s behind keys = record { are = sym (append-nil behind.items); grows = omega arith }
 
-  pub kept_next : (s t u : Slab (Connection S T)) (busy later kept more : Vec ℕ Global) (keys : List ℕ) (index : ℕ) (reported : Bool) → ListsMarked s busy later
-      → keys ≡ busy.items → index < length keys → KeptSoFar s t busy later kept keys index → OthersStay t u (get_or keys index 0)
+  pub kept_next : (s t u : Slab (Connection S T)) (busy : Vec ℕ Global) (behind kept more : VecDeque ℕ Global) (keys : List ℕ) (index : ℕ) (reported : Bool) → ListsMarked s busy behind
+      → keys ≡ busy.items → index < length keys → KeptSoFar t behind kept keys index → OthersStay t u (get_or keys index 0)
       → reported ≡ is_marked (get u (get_or keys index 0))
-      → (kept.len < vec_capacity kept → more.items ≡ (if reported then kept.items ++ get_or keys index 0 ∷ [] else kept.items)) → vec_capacity kept ≤ vec_capacity more
-      → KeptSoFar s u busy later more keys (index + 1)
-  kept_next s t u busy later kept more keys index reported l is within k others tells now grows =
+      → (kept.len < deque_capacity kept → more.items ≡ (if reported then kept.items ++ get_or keys index 0 ∷ [] else kept.items)) → deque_capacity kept ≤ deque_capacity more
+      → KeptSoFar u behind more keys (index + 1)
+  kept_next s t u busy behind kept more keys index reported l is within k others tells now grows =
       let short : index < length busy.items = subst (λ (x : List ℕ). index < length x) is within in
-      let are : kept.items ≡ filter (λ key. is_marked (get t key)) (take index busy.items) = k.are ∙ ap (λ (x : List ℕ). filter (λ key. is_marked (get t key)) (take index x)) is in
-      let room : length kept.items < vec_capacity kept = room_to_keep s busy later kept (λ key. is_marked (get t key)) index l short are k.grows in
+      let are : kept.items ≡ behind.items ++ filter (λ key. is_marked (get t key)) (take index busy.items) =
+      k.are ∙ ap (λ (x : List ℕ). behind.items ++ filter (λ key. is_marked (get t key)) (take index x)) is in
+      let room : length kept.items < deque_capacity kept = room_to_keep s busy behind kept (λ key. is_marked (get t key)) index l short are k.grows in
       let long : kept.len ≡ length kept.items = kept.ok.0 in
-      let once : AllPairs (λ x y. x ≢ y) keys = subst (λ (x : List ℕ). AllPairs (λ x y. x ≢ y) x) (sym is) l.once in
+      let once : AllPairs (λ x y. x ≢ y) keys = subst (λ (x : List ℕ). AllPairs (λ x y. x ≢ y) x) (sym is) (once_last behind.items busy.items l.once) in
       record {
-        are = kept_or_not keys kept.items more.items index (get_or keys index 0) t u reported once within refl k.are others tells (now (omega (arith, room, long)));
+        are = kept_or_not behind.items keys kept.items more.items index (get_or keys index 0) t u reported once within refl k.are others tells (now (omega (arith, room, long)));
         grows = omega (arith, k.grows, grows);
       }
 
   -- all of the busy list was gone through
-  pub kept_all : (s t : Slab (Connection S T)) (busy later kept new : Vec ℕ Global) (keys : List ℕ) (index : ℕ) → keys ≡ busy.items → length keys ≤ index
-      → KeptSoFar s t busy later kept keys index → new ≡ kept → new.items ≡ filter (λ key. is_marked (get t key)) busy.items
-  kept_all s t busy later kept new keys index is past k same =
-      ap (λ (v : Vec ℕ Global). v.items) same ∙ all_kept keys kept.items index (λ key. is_marked (get t key)) past k.are ∙ ap (filter (λ key. is_marked (get t key))) is
+  pub kept_all : (t : Slab (Connection S T)) (busy : Vec ℕ Global) (behind kept : VecDeque ℕ Global) (keys : List ℕ) (index : ℕ) → keys ≡ busy.items → length keys ≤ index
+      → KeptSoFar t behind kept keys index → kept.items ≡ behind.items ++ filter (λ key. is_marked (get t key)) busy.items
+  kept_all t busy behind kept keys index is past k =
+      k.are ∙ ap (λ (x : List ℕ). behind.items ++ filter (λ key. is_marked (get t key)) x) (take_all index keys past ∙ is)
 
-  -- all of the busy list was gone through, and what was kept of it takes its place
-  pub all_listed : (happens : Slab (Connection S T) → Slab (Connection S T) → ℕ → Type 0) (s t : Slab (Connection S T)) (busy later kept cleared new_busy new_later : Vec ℕ Global)
-      (keys : List ℕ) (index : ℕ) → ListsMarked s busy later → keys ≡ busy.items → length keys ≤ index → OneByOne happens (take index keys) s t
-      → KeptSoFar s t busy later kept keys index → cleared.items ≡ [] → vec_capacity cleared ≡ vec_capacity busy → new_busy ≡ kept → new_later ≡ cleared
-      → ListsMarked t new_busy new_later
-  all_listed happens s t busy later kept cleared new_busy new_later keys index l is past all k none capacity same same_later =
+  -- all of the busy list was gone through, and what was kept of it waits
+  pub all_listed : (happens : Slab (Connection S T) → Slab (Connection S T) → ℕ → Type 0) (s t : Slab (Connection S T)) (busy cleared : Vec ℕ Global) (behind kept : VecDeque ℕ Global)
+      (keys : List ℕ) (index : ℕ) → ListsMarked s busy behind → keys ≡ busy.items → length keys ≤ index → OneByOne happens (take index keys) s t
+      → KeptSoFar t behind kept keys index → cleared.items ≡ [] → vec_capacity cleared ≡ vec_capacity busy → ListsMarked t cleared kept
+  all_listed happens s t busy cleared behind kept keys index l is past all k none capacity =
       let whole : OneByOne happens busy.items s t = subst (λ (x : List ℕ). OneByOne happens x s t) (take_all index keys past ∙ is) all in
-      let grows : vec_capacity later ≤ vec_capacity new_busy = subst (λ (v : Vec ℕ Global). vec_capacity later ≤ vec_capacity v) (sym same) k.grows in
-      let room : vec_capacity new_later ≡ vec_capacity busy = ap (λ (v : Vec ℕ Global). vec_capacity v) same_later ∙ capacity in
-      listed_after happens s t busy later new_busy new_later l whole (kept_all s t busy later kept new_busy keys index is past k same)
-      (ap (λ (v : Vec ℕ Global). v.items) same_later ∙ none) grows (omega (arith, room))
+      listed_after happens s t busy cleared behind kept l whole (kept_all t busy behind kept keys index is past k ∙ waiting_kept happens s t busy behind l whole)
+      none k.grows (omega (arith, capacity))
 
   on_if_there : (mid t : Slab (Connection S T)) (key : ℕ) (o : Option (Connection S T)) → get mid key ≡ o → Wakes mid t key → StaysVacant mid t key
       → (c : Connection S T) → get t key ≡ Some c → c.busy ≡ true
@@ -151,46 +163,47 @@ module _ {S T : Type 0} (remaining contents : S → Option (List ℕ)) (is_over 
       let stays : StaysUnlessDone (alone.0 c was).0 (Some d) = subst (λ (o : Option (Connection S T)). StaysUnlessDone (alone.0 c was).0 o) here (alone.0 c was).2 in
       subst (λ (x : Connection S T). d.busy ≡ true ↔ IsBehind x) (sym stays.1) stays.2
 
-  -- the list is right of the connections that have read and had their turns
-  pub listed_stepped : (s r a : Slab (Connection S T)) (busy later : Vec ℕ Global) → ListsMarked s busy later
-      → OneByOne (ReadsAt remaining contents is_over is_dry is_full) busy.items s r → TakeRounds tells refuses submits busy.items r a → ListsMarked a busy later
-  listed_stepped s r a busy later l reads rounds =
-      listed_still s a busy later
+  -- the lists are right of the connections that have read and had their turns
+  listed_stepped : (s r a : Slab (Connection S T)) (busy : Vec ℕ Global) (behind : VecDeque ℕ Global) → ListsMarked s busy behind
+      → OneByOne (ReadsAt remaining contents is_over is_dry is_full) busy.items s r → TakeRounds tells refuses submits busy.items r a → ListsMarked a busy behind
+  listed_stepped s r a busy behind l reads rounds =
+      listed_still s a busy behind
       (marks_then s r a (marks_kept (ReadsAt remaining contents is_over is_dry is_full) keeps_read busy.items s r reads)
       (marks_kept (λ s t key. HasRoundAt most_steps tells refuses submits s t key) (keeps_turned most_steps) busy.items r a rounds))
       l
 
-  -- all marks are right once the connections of the list were served
-  pub all_right : (s r a t : Slab (Connection S T)) (busy later : Vec ℕ Global) → ListsMarked s busy later → MarksBehind s
-      → OneByOne (ReadsAt remaining contents is_over is_dry is_full) busy.items s r → TakeRounds tells refuses submits busy.items r a
-      → OneByOne (WritesAt remaining contents is_over is_dry is_full) busy.items a t → (key : ℕ) → IsRightAt t key
-  all_right s r a t busy later l behind reads rounds writes =
-      right_everywhere s t busy later l behind
-      (λ key not. untouched (WritesAt remaining contents is_over is_dry is_full) busy.items a t key writes not
-      ∙ (untouched (λ s t key. HasRoundAt most_steps tells refuses submits s t key) busy.items r a key rounds not
-      ∙ untouched (ReadsAt remaining contents is_over is_dry is_full) busy.items s r key reads not))
-      (λ key listed. right_after (WritesAt remaining contents is_over is_dry is_full) (λ s t key. right_at s t key (get s key) refl) busy.items a t key writes listed)
+  -- a connection whose key is not in the list stays as it is while those of the list are served
+  unserved : (s r a t : Slab (Connection S T)) (keys : List ℕ) → OneByOne (ReadsAt remaining contents is_over is_dry is_full) keys s r → TakeRounds tells refuses submits keys r a
+      → OneByOne (WritesAt remaining contents is_over is_dry is_full) keys a t → (key : ℕ) → ¬ (Contains keys key) → get t key ≡ get s key
+  unserved s r a t keys reads rounds writes key not =
+      untouched (WritesAt remaining contents is_over is_dry is_full) keys a t key writes not
+      ∙ (untouched (λ s t key. HasRoundAt most_steps tells refuses submits s t key) keys r a key rounds not
+      ∙ untouched (ReadsAt remaining contents is_over is_dry is_full) keys s r key reads not)
 
-  pub marks_behind : (t : Slab (Connection S T)) → ((key : ℕ) → IsRightAt t key) → MarksBehind t
-  marks_behind t right key c here is = (right key c here).1 is
+  -- the marks of the connections that have written are right
+  pub right_written : (a t : Slab (Connection S T)) (keys : List ℕ) → OneByOne (WritesAt remaining contents is_over is_dry is_full) keys a t → MarksJustBehind t keys
+  right_written a t keys writes key listed = right_after (WritesAt remaining contents is_over is_dry is_full) (λ s t key. right_at s t key (get s key) refl) keys a t key writes listed
 
   -- lists of marked connections stay so after reads and rounds that return both lists unchanged
-  pub listed_handed : (s r a : Slab (Connection S T)) (busy later busy_read later_read busy_stepped later_stepped : Vec ℕ Global) → ListsMarked s busy later
-      → OneByOne (ReadsAt remaining contents is_over is_dry is_full) busy.items s r → busy_read ≡ busy → later_read ≡ later
-      → TakeRounds tells refuses submits busy_read.items r a → busy_stepped ≡ busy_read → later_stepped ≡ later_read → ListsMarked a busy_stepped later_stepped
-  listed_handed s r a busy later busy_read later_read busy_stepped later_stepped l reads is is_later rounds is_too is_later_too =
+  pub listed_handed : (s r a : Slab (Connection S T)) (busy busy_read busy_stepped : Vec ℕ Global) (behind behind_read behind_stepped : VecDeque ℕ Global) → ListsMarked s busy behind
+      → OneByOne (ReadsAt remaining contents is_over is_dry is_full) busy.items s r → busy_read ≡ busy → behind_read ≡ behind
+      → TakeRounds tells refuses submits busy_read.items r a → busy_stepped ≡ busy_read → behind_stepped ≡ behind_read → ListsMarked a busy_stepped behind_stepped
+  listed_handed s r a busy busy_read busy_stepped behind behind_read behind_stepped l reads is is_behind rounds is_too is_behind_too =
       let same : busy_stepped ≡ busy = is_too ∙ is in
-      let same_later : later_stepped ≡ later = is_later_too ∙ is_later in
-      subst (λ (v : Vec ℕ Global). ListsMarked a v later_stepped) (sym same)
-      (subst (λ (v : Vec ℕ Global). ListsMarked a busy v) (sym same_later)
-      (listed_stepped s r a busy later l reads (subst (λ (v : Vec ℕ Global). TakeRounds tells refuses submits v.items r a) is rounds)))
+      let same_behind : behind_stepped ≡ behind = is_behind_too ∙ is_behind in
+      subst (λ (v : Vec ℕ Global). ListsMarked a v behind_stepped) (sym same)
+      (subst (λ (v : VecDeque ℕ Global). ListsMarked a busy v) (sym same_behind)
+      (listed_stepped s r a busy behind l reads (subst (λ (v : Vec ℕ Global). TakeRounds tells refuses submits v.items r a) is rounds)))
 
-  pub right_handed : (s r a t : Slab (Connection S T)) (busy later busy_read busy_stepped : Vec ℕ Global) → ListsMarked s busy later → MarksBehind s
+  -- each connection that is behind is marked once those of the list were served
+  pub behind_handed : (s r a t : Slab (Connection S T)) (busy busy_read busy_stepped : Vec ℕ Global) (behind : VecDeque ℕ Global) → ListsMarked s busy behind → MarksBehind s
       → OneByOne (ReadsAt remaining contents is_over is_dry is_full) busy.items s r → busy_read ≡ busy
       → TakeRounds tells refuses submits busy_read.items r a → busy_stepped ≡ busy_read
-      → OneByOne (WritesAt remaining contents is_over is_dry is_full) busy_stepped.items a t → (key : ℕ) → IsRightAt t key
-  right_handed s r a t busy later busy_read busy_stepped l behind reads is rounds is_too writes =
+      → OneByOne (WritesAt remaining contents is_over is_dry is_full) busy_stepped.items a t → MarksBehind t
+  behind_handed s r a t busy busy_read busy_stepped behind l marks reads is rounds is_too writes =
       let same : busy_stepped ≡ busy = is_too ∙ is in
-      all_right s r a t busy later l behind reads
-      (subst (λ (v : Vec ℕ Global). TakeRounds tells refuses submits v.items r a) is rounds)
-      (subst (λ (v : Vec ℕ Global). OneByOne (WritesAt remaining contents is_over is_dry is_full) v.items a t) same writes)
+      let written : OneByOne (WritesAt remaining contents is_over is_dry is_full) busy.items a t =
+      subst (λ (v : Vec ℕ Global). OneByOne (WritesAt remaining contents is_over is_dry is_full) v.items a t) same writes in
+      behind_everywhere s t busy behind l marks
+      (unserved s r a t busy.items reads (subst (λ (v : Vec ℕ Global). TakeRounds tells refuses submits v.items r a) is rounds) written)
+      (right_written a t busy.items written)

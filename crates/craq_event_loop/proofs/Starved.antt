@@ -1,8 +1,6 @@
 -- If the bytes that were read have no whole frame left, they have none after a step or an outcome.
-use Rattle.std.proofs.Common.{◌≡◌, ℕ, Bool, true, false, List, Vec, inl, inr, refl, sym, subst}
+use Rattle.std.proofs.Common.{◌≡◌, ℕ, Bool, true, false, List, inl, inr, refl, sym, subst}
 use Rattle.std.proofs.Math.Logic.{∥∥₁_map}
-use Rattle.std.specs.declared.alloc.Global.{Global}
-use Rattle.slab.specs.Slab.{Slab, get}
 use Rattle.craq_frames.specs.Frame.{IsPartial}
 use Rattle.craq_front.specs.declared.protocol_codec.ProtocolCodec.{ProtocolCodec}
 use Rattle.craq_front.proofs.Fronts.{no_frame}
@@ -13,7 +11,8 @@ use Rattle.craq_session.specs.declared.connection_state.Stepped.{Stepped}
 use Rattle.craq_session.specs.declared.connection_state.Stepped.TheVariants as steps
 use Rattle.craq_session.specs.ConnectionStates.{CutsOff, Found, Took}
 use Rattle.craq_event_loop.specs.declared.connection.Connection.{Connection}
-use Rattle.craq_event_loop.specs.Busy.{IsBehind, LeavesNoFrame, ListsBehind, NoneBehind}
+use Rattle.craq_event_loop.specs.Busy.{IsBehind, LeavesNoFrame, NoneBehind, NoneForgotten, Rests}
+use Rattle.craq_event_loop.specs.declared.event_loop.Members.{Members}
 use Rattle.craq_event_loop.specs.Starved.{IsStarved}
 use Rattle.craq_event_loop.proofs.Marks.{none_is_behind}
 
@@ -77,8 +76,8 @@ none_left c rests on empty free = by_more c.more refl
     by_more true is = absurd (rests (inr (inr (on, empty, free, inl is))))
     by_more false is = c.unread is
 
--- where the busy list is empty no connection is behind, and none leaves a frame
-pub none_is_left : {S T : Type 0} (s : Slab (Connection S T)) (busy : Vec ℕ Global) → ListsBehind s busy.items → busy.len ≡ 0 → NoneBehind s
-none_is_left s busy lists none key c here =
-    let rests : ¬ (IsBehind c) = λ is. none_is_behind s busy key c lists none here is in
-    (rests, none_left c rests)
+-- where the lists of a thread name no connection none is behind, and none leaves a frame
+pub none_is_left : {S T P : Type 0} (m : Members S T P) → NoneForgotten m → Rests m → NoneBehind m.connections
+none_is_left m k rests key c here =
+    let rested : ¬ (IsBehind c) = λ is. none_is_behind m key c k rests here is in
+    (rested, none_left c rested)

@@ -1,5 +1,5 @@
 -- The steps that a connection state takes, and the key and the numbers under which its calls are submitted.
-use Rattle.std.specs.Prelude.{◌≡◌, ◌⊎◌, ◌+◌, ◌%◌, ◌^◌, ⊤, ℕ, zero, suc, length, Bool, true, false, List, [], ◌∷◌, ◌++◌, None, Some, Result}
+use Rattle.std.specs.Prelude.{◌≡◌, ◌⊎◌, ◌+◌, ◌%◌, ◌^◌, ⊤, ℕ, zero, suc, Bool, true, false, List, [], ◌∷◌, ◌++◌, None, Some, Result}
 use Rattle.slab.specs.Slab.{Slab, get}
 use Rattle.craq_names.specs.declared.refusal.Refusal.{Refusal}
 use Rattle.craq_seat.specs.Calls.{Called}
@@ -15,7 +15,7 @@ use Rattle.craq_session.specs.declared.connection_state.Phase.TheVariants as pha
 use Rattle.craq_session.specs.declared.connection_state.Stepped.{Stepped}
 use Rattle.craq_session.specs.declared.connection_state.Stepped.TheVariants as steps
 use Rattle.craq_event_loop.specs.declared.connection.Connection.{Connection}
-use Rattle.craq_event_loop.specs.Belonging.{CameBack, KeepsSlot, OneByOne}
+use Rattle.craq_event_loop.specs.Belonging.{GetsOutcome, KeepsSlot, OneByOne}
 
 -- the number of the call after that of this number; after 2^64 - 1 comes 0, so a number comes again only after 2^64 calls
 abbrev pub next_call : ℕ → ℕ
@@ -40,7 +40,7 @@ ChangesSession old new = (new.phase ≡ old.phase) × (new.codec ≡ old.codec) 
 abbrev pub AsksBackend : {T : Type 0} → Refusing → Calling T → Phase → ConnectionState T → ConnectionState T → Type 0
 AsksBackend refuses submits (phases.Waits q) old new =
     (submits q old.session None new.session × MayHaveAny refuses q × ChangesSession old new)
-    ⊎ ((outcome : Result Called Refusal) × submits q old.session (Some outcome) new.session × IsRefusable refuses q outcome × CameBack outcome old new)
+    ⊎ ((outcome : Result Called Refusal) × submits q old.session (Some outcome) new.session × IsRefusable refuses q outcome × GetsOutcome outcome old new)
 AsksBackend refuses submits phase old new = (new.session ≡ old.session) × ChangesSession old new
 
 -- a step after which no call is to be made
@@ -70,7 +70,7 @@ asked_in (call count mid made new number unsent taken took same asked) = asked_i
 
 -- the most steps that a connection takes in a round before others have their turn
 abbrev pub most_steps : ℕ
-most_steps = 2
+most_steps = 3
 
 -- a step that finds nothing to do, and says why
 abbrev pub IsLast : Stepped → Type 0

@@ -1,5 +1,5 @@
 -- Bytes and completions of each connection.
-use Rattle.std.specs.Prelude.{◌≡◌, ◌≢◌, ◌⊎◌, ℕ, true, false, List, [], ◌∷◌, ◌++◌, Option, None, Some, Result, reverse}
+use Rattle.std.specs.Prelude.{◌≡◌, ◌≢◌, ◌⊎◌, ◌↔◌, ℕ, true, false, List, [], ◌∷◌, ◌++◌, Option, None, Some, Result, reverse}
 use Rattle.std.specs.Io.KnownBytes.{Appends, Consumes}
 use Rattle.slab.specs.Slab.{Slab, get}
 use Rattle.craq_names.specs.declared.refusal.Refusal.{Refusal}
@@ -9,6 +9,7 @@ use Rattle.craq_completions.specs.declared.queue_state.Completion.{Completion}
 use Rattle.craq_completions.specs.declared.token.Token.{Token}
 use Rattle.craq_session.specs.Asking.{Finishing, IsOutcome}
 use Rattle.craq_session.specs.ConnectionStates.{AnswersCall, Holds}
+use Rattle.craq_session.specs.declared.call_request.CallRequest.{CallRequest}
 use Rattle.craq_session.specs.declared.connection_state.ConnectionState.{ConnectionState}
 use Rattle.craq_session.specs.declared.connection_state.Phase.TheVariants as phases
 use Rattle.craq_event_loop.specs.declared.connection.Connection.{Connection}
@@ -31,16 +32,18 @@ pub record CameAs {S T : Type 0} (stream : S) (session : T) (slot receipts : ℕ
   pub same_place : c.slot ≡ slot
   pub same_receipts : c.receipts ≡ receipts
 
--- just these bytes came to the connection state, behind those before; its unsent bytes, its calls and its session are unchanged
-pub record Hears {T : Type 0} (came : List ℕ) (old new : ConnectionState T) : Type 0 where
+-- just these bytes came to the connection state, behind those before; the call that is under way, its unsent bytes, its calls and its
+-- session are unchanged
+pub record ReceivesBytes {T : Type 0} (came : List ℕ) (old new : ConnectionState T) : Type 0 where
   pub heard : (read written : List ℕ) (rounds : History) → Holds old.phase old.codec read written rounds → Holds new.phase new.codec (read ++ came) written rounds
+  pub waits : (q : CallRequest) → new.phase ≡ phases.Waits q ↔ old.phase ≡ phases.Waits q
   pub unsent : new.codec.buffers.output.items ≡ old.codec.buffers.output.items
   pub calls : new.calls ≡ old.calls
   pub session : new.session ≡ old.session
 
 -- just these bytes, the first that were unsent, are written as far as the connection state knows; its phase, calls and session are
 -- unchanged
-pub record Gives {T : Type 0} (went : List ℕ) (old new : ConnectionState T) : Type 0 where
+pub record SendsBytes {T : Type 0} (went : List ℕ) (old new : ConnectionState T) : Type 0 where
   pub given : (read written : List ℕ) (rounds : History) → Holds old.phase old.codec read written rounds → Holds new.phase new.codec read (written ++ went) rounds
   pub unsent : old.codec.buffers.output.items ≡ went ++ new.codec.buffers.output.items
   pub phase : new.phase ≡ old.phase
@@ -49,32 +52,32 @@ pub record Gives {T : Type 0} (went : List ℕ) (old new : ConnectionState T) : 
 
 -- the connection state got the bytes that a socket gave, in order and whole
 abbrev pub Reads : {T : Type 0} → Option (List ℕ) → Option (List ℕ) → ConnectionState T → ConnectionState T → Type 0
-Reads before after old new = (came : List ℕ) × Consumes before after came × Hears came old new
+Reads before after old new = (came : List ℕ) × Consumes before after came × ReceivesBytes came old new
 
 -- a socket took the bytes that were unsent, in order and whole, and the connection state notes them as written
 abbrev pub Writes : {T : Type 0} → Option (List ℕ) → Option (List ℕ) → ConnectionState T → ConnectionState T → Type 0
-Writes before after old new = (went : List ℕ) × Appends before after went × Gives went old new
+Writes before after old new = (went : List ℕ) × Appends before after went × SendsBytes went old new
 
 -- some bytes came now, or none came and its last ones went when they did
-abbrev pub HearsNow : {S T : Type 0} → ℕ → Connection S T → Connection S T → Type 0
-HearsNow now old new =
+abbrev pub ReceivesNow : {S T : Type 0} → ℕ → Connection S T → Connection S T → Type 0
+ReceivesNow now old new =
     ((new.heard ≡ old.heard) × (new.state ≡ old.state))
-    ⊎ ((new.heard ≡ now) × (came : List ℕ) × (came ≢ []) × Hears came old.state new.state)
+    ⊎ ((new.heard ≡ now) × (came : List ℕ) × (came ≢ []) × ReceivesBytes came old.state new.state)
 
 -- some bytes were taken now, or none were and its last ones went when they did
-abbrev pub GivesNow : {S T : Type 0} → ℕ → Connection S T → Connection S T → Type 0
-GivesNow now old new =
+abbrev pub SendsNow : {S T : Type 0} → ℕ → Connection S T → Connection S T → Type 0
+SendsNow now old new =
     ((new.heard ≡ old.heard) × (new.state ≡ old.state))
-    ⊎ ((new.heard ≡ now) × (went : List ℕ) × (went ≢ []) × Gives went old.state new.state)
+    ⊎ ((new.heard ≡ now) × (went : List ℕ) × (went ≢ []) × SendsBytes went old.state new.state)
 
 -- the call of the connection state came back so
-abbrev pub CameBack : {T : Type 0} → Result Called Refusal → ConnectionState T → ConnectionState T → Type 0
-CameBack outcome old new = AnswersCall old.phase outcome new.phase old.codec new.codec old.calls new.calls
+abbrev pub GetsOutcome : {T : Type 0} → Result Called Refusal → ConnectionState T → ConnectionState T → Type 0
+GetsOutcome outcome old new = AnswersCall old.phase outcome new.phase old.codec new.codec old.calls new.calls
 
 -- the call of the connection state came back by a completion that says this: its session finished it
-abbrev pub CameByCompletion : {T R : Type 0} → Finishing T R → Result R Refusal → ConnectionState T → ConnectionState T → Type 0
-CameByCompletion finishes reply old new =
-    (outcome : Result Called Refusal) × IsOutcome finishes old.phase reply old.session outcome new.session × CameBack outcome old new
+abbrev pub GetsCompletion : {T R : Type 0} → Finishing T R → R → ConnectionState T → ConnectionState T → Type 0
+GetsCompletion finishes reply old new =
+    (outcome : Result Called Refusal) × IsOutcome finishes old.phase reply old.session outcome new.session × GetsOutcome outcome old new
 
 -- it is the connection of the same place, and the receipts of its calls go where they went
 abbrev pub KeepsSlot : {S T : Type 0} → Connection S T → Connection S T → Type 0
@@ -82,8 +85,8 @@ KeepsSlot old new = (new.slot ≡ old.slot) × (new.receipts ≡ old.receipts)
 
 -- a completion under this number says this: under the number of the connection's last call, the connection state gets the outcome of
 -- its call; under another number nothing changes
-pub record TakesCompletion {S T R : Type 0} (finishes : Finishing T R) (number : ℕ) (reply : Result R Refusal) (old new : Connection S T) : Type 0 where
-  pub own : number ≡ old.calls → CameByCompletion finishes reply old.state new.state
+pub record TakesCompletion {S T R : Type 0} (finishes : Finishing T R) (number : ℕ) (reply : R) (old new : Connection S T) : Type 0 where
+  pub own : number ≡ old.calls → GetsCompletion finishes reply old.state new.state
   pub another : number ≢ old.calls → new.state ≡ old.state
   pub calls : new.calls ≡ old.calls
   pub stream : new.stream ≡ old.stream
@@ -92,7 +95,7 @@ pub record TakesCompletion {S T R : Type 0} (finishes : Finishing T R) (number :
   pub slot : KeepsSlot old new
 
 -- the connection whose key is in this token takes the completion under the number that is there
-abbrev pub Delivers : {S T R : Type 0} → Finishing T R → Slab (Connection S T) → Slab (Connection S T) → Token → Result R Refusal → Type 0
+abbrev pub Delivers : {S T R : Type 0} → Finishing T R → Slab (Connection S T) → Slab (Connection S T) → Token → R → Type 0
 Delivers {S} {T} finishes old new token reply =
     (c : Connection S T) → get old token.connection ≡ Some c
     → (d : Connection S T) × (get new token.connection ≡ Some d) × TakesCompletion finishes token.call reply c d
@@ -119,15 +122,15 @@ OneByOne happens [] old new = new ≡ old
 OneByOne {S} {T} happens (key ∷ keys) old new = (mid : Slab (Connection S T)) × Alone happens old mid key × OneByOne happens keys mid new
 
 -- the completion is delivered to the connection whose key is in its token, and no connection under another key changes
-abbrev pub DeliversCompletion : {S T R : Type 0} → Finishing T R → Completion (Result R Refusal) → Slab (Connection S T) → Slab (Connection S T) → Type 0
+abbrev pub DeliversCompletion : {S T R : Type 0} → Finishing T R → Completion R → Slab (Connection S T) → Slab (Connection S T) → Type 0
 DeliversCompletion finishes completion old new = Delivers finishes old new completion.token completion.reply × StaysVacant old new completion.token.connection × OthersStay old new completion.token.connection
 
 -- each of these completions is delivered, the last one first
-abbrev pub DeliversAll : {S T R : Type 0} → Finishing T R → List (Completion (Result R Refusal)) → Slab (Connection S T) → Slab (Connection S T) → Type 0
+abbrev pub DeliversAll : {S T R : Type 0} → Finishing T R → List (Completion R) → Slab (Connection S T) → Slab (Connection S T) → Type 0
 DeliversAll finishes [] old new = new ≡ old
 DeliversAll {S} {T} finishes (completion ∷ later) old new = (mid : Slab (Connection S T)) × DeliversAll finishes later old mid × DeliversCompletion finishes completion mid new
 
 -- the backend brought completions, and each of them is delivered, in their order
-abbrev pub DeliversBrought : {S T R : Type 0} → Finishing T R → (List (Completion (Result R Refusal)) → Type 0) → Slab (Connection S T) → Slab (Connection S T) → Type 0
+abbrev pub DeliversBrought : {S T R : Type 0} → Finishing T R → (List (Completion R) → Type 0) → Slab (Connection S T) → Slab (Connection S T) → Type 0
 DeliversBrought {S} {T} {R} finishes brings old new =
-    (completions : List (Completion (Result R Refusal))) × brings completions × DeliversAll finishes (reverse completions) old new
+    (completions : List (Completion R)) × brings completions × DeliversAll finishes (reverse completions) old new

@@ -1,7 +1,9 @@
 -- Connections that have something to do, those that are marked for it, and those that the list of a thread names.
 use Rattle.std.specs.Prelude.{◌≡◌, ◌≢◌, ◌≤◌, ◌<◌, ◌-◌, ◌⊎◌, ◌↔◌, ◌++◌, ℕ, Bool, true, false, List, [], ◌∷◌, Option, None, Some, Vec, length, nat_lt, vec_capacity, vec_len, if◌then◌else◌}
 use Rattle.std.specs.List.{AllPairs, Contains}
+use Rattle.std.specs.VecDeque.{deque_capacity, deque_len}
 use Rattle.std.specs.declared.alloc.Global.{Global}
+use Rattle.std.specs.declared.collections.VecDeque.{VecDeque}
 use Rattle.slab.specs.Slab.{Slab, get, slab_len}
 use Rattle.craq_session.specs.ConnectionStates.{ending_of}
 use Rattle.craq_session.specs.declared.connection_state.Phase.{Phase}
@@ -54,31 +56,34 @@ abbrev pub with_key : {S T : Type 0} → List ℕ → ℕ → Option (Connection
 with_key keys key None = keys
 with_key keys key (Some c) = if c.busy then keys else keys ++ key ∷ []
 
--- the first list names just the connections that are marked, each once; the second names none; and both have room for the keys of
--- all connections
-pub record ListsMarked {S T : Type 0} (connections : Slab (Connection S T)) (busy later : Vec ℕ Global) : Type 0 where
-  pub marked : (key : ℕ) → Contains busy.items key ↔ is_marked (get connections key) ≡ true
-  pub once : AllPairs (λ x y. x ≢ y) busy.items
-  pub none_later : later.items ≡ []
+-- the two lists name just the connections that are marked, each once in one of them; and both have room for the keys of all connections
+pub record ListsMarked {S T : Type 0} (connections : Slab (Connection S T)) (busy : Vec ℕ Global) (behind : VecDeque ℕ Global) : Type 0 where
+  pub marked : (key : ℕ) → Contains (behind.items ++ busy.items) key ↔ is_marked (get connections key) ≡ true
+  pub once : AllPairs (λ x y. x ≢ y) (behind.items ++ busy.items)
   pub room : slab_len connections ≤ vec_capacity busy
-  pub room_later : slab_len connections ≤ vec_capacity later
+  pub room_behind : slab_len connections ≤ deque_capacity behind
 
 -- each connection that is behind is marked
 abbrev pub MarksBehind : {S T : Type 0} → Slab (Connection S T) → Type 0
 MarksBehind {S} {T} connections = (key : ℕ) (c : Connection S T) → get connections key ≡ Some c → IsBehind c → c.busy ≡ true
 
--- the busy list of a thread names just its connections that are marked, each once, and each that is behind is
+-- the lists of a thread name just its connections that are marked, each once, and each that is behind is marked
 pub record NoneForgotten {S T R : Type 0} (m : Members S T R) : Type 0 where
-  pub listed : ListsMarked m.connections m.busy m.later
+  pub listed : ListsMarked m.connections m.busy m.behind
   pub behind : MarksBehind m.connections
 
 -- a thread that has no connections yet
 abbrev pub HasNone : {S T R : Type 0} → Members S T R → Type 0
-HasNone m = (slab_len m.connections ≡ 0) × (vec_len m.busy ≡ 0) × (vec_len m.later ≡ 0)
+HasNone m = (slab_len m.connections ≡ 0) × (vec_len m.busy ≡ 0) × (deque_len m.behind ≡ 0)
 
--- these keys are just those of the connections that are behind
-abbrev pub ListsBehind : {S T : Type 0} → Slab (Connection S T) → List ℕ → Type 0
-ListsBehind {S} {T} connections keys = (key : ℕ) → Contains keys key ↔ ((c : Connection S T) × (get connections key ≡ Some c) × IsBehind c)
+-- the thread's lists name no connection
+abbrev pub Rests : {S T R : Type 0} → Members S T R → Type 0
+Rests m = (m.busy.items ≡ []) × (m.behind.items ≡ [])
+
+-- of the connections under these keys just those that are behind are marked
+abbrev pub MarksJustBehind : {S T : Type 0} → Slab (Connection S T) → List ℕ → Type 0
+MarksJustBehind {S} {T} connections keys =
+    (key : ℕ) → Contains keys key → (c : Connection S T) → get connections key ≡ Some c → c.busy ≡ true ↔ IsBehind c
 
 -- no frame that was read is left: if the connection goes on with no byte unsent and no call under way, there is no message to be asked,
 -- and less than a frame

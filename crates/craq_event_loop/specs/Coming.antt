@@ -13,7 +13,7 @@ use Rattle.craq_event_loop.specs.Readiness.{noticed}
 pub record ChangesRoom {S T R : Type 0} (old new : Members S T R) : Type 0 where
   pub connections : SameValues old.connections new.connections
   pub busy : new.busy.items ≡ old.busy.items
-  pub later : new.later.items ≡ old.later.items
+  pub behind : new.behind.items ≡ old.behind.items
 
 -- the connection that came is under a key that was vacant. It is new except for its mark, its key is behind the others in the busy
 -- list, and no other connection changes
@@ -25,6 +25,7 @@ pub record TakesIn {S T R : Type 0} (stream : S) (session : T) (slot receipts : 
   pub came_as : CameAs stream session slot receipts connection
   pub here : get new.connections key ≡ Some (record connection { busy = true })
   pub listed : new.busy.items ≡ old.busy.items ++ key ∷ []
+  pub behind : new.behind.items ≡ old.behind.items
   pub others : OthersStay old.connections new.connections key
 
 -- each connection that was there is as it was

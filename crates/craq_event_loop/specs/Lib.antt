@@ -3,6 +3,8 @@ pub mod Belonging
 pub mod Busy
 pub mod Coming
 pub mod Readiness
+pub mod Reaching
+pub mod Rounds
 pub mod Serving
 pub mod Sockets
 pub mod Starved

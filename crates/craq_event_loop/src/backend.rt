@@ -1,14 +1,13 @@
 //! `LoopBackend`: the backend of an event loop, which is asked without waiting, and the source of
 //! its connections. The server of a store is one.
-ghost use Rattle.std.specs.Prelude.{Bool, List, Result};
+ghost use Rattle.std.specs.Prelude.{Bool, IfSome, List};
 ghost use Rattle.craq_completions.specs.declared.queue_state.Completion.{Completion};
-ghost use Rattle.craq_names.specs.declared.refusal.Refusal.{Refusal};
+ghost use Rattle.craq_session.specs.Asking.{called_by};
+ghost use Rattle.craq_event_loop.specs.Reaching.{IsReachable};
 
 use crate::traffic::ClientStream;
 use craq_completions::Completion;
-use craq_names::Refusal;
-use craq_seat::CallReceipt;
-use craq_session::AsyncBackend;
+use craq_session::{AsyncBackend, ConnectionState};
 
 /// A connection that came to an event loop.
 #[derive(Drop)]
@@ -18,21 +17,24 @@ pub struct Arrival<T> {
     pub session: T,
     /// Its place among the open connections.
     pub slot: usize,
-    /// The index under which the receipts of its calls are handed over once it has ended.
+    /// The index under which the receipts of its calls are kept once it has ended.
     pub receipts: usize,
 }
 
 /// The backend of an event loop.
 pub trait LoopBackend: AsyncBackend {
     /// The completions that it brought: those that were there before, and all that are there then.
-    ghost brings: { Self → List (Completion (Result Self.Reply Refusal)) → List (Completion (Result Self.Reply Refusal)) → Type 0 };
+    ghost brings: { Self → List (Completion Self.Reply) → List (Completion Self.Reply) → Type 0 };
 
     /// Its answer to the question whether the event loop may sleep.
     ghost lets_sleep: { Self → Bool → Type 0 };
 
     /// Appends the completions that have come, in their order.
-    fn take_completions(&self, into: &mut Vec<Completion<Result<Self::Reply, Refusal>>>)
+    fn take_completions(&self, into: &mut Vec<Completion<Self::Reply>>)
         ensures { brings self.now into.old.items into.new.items };
+
+    /// Takes the steps of the calls that were submitted under `Load::Light` and wait for that.
+    fn run_queued(&self);
 
     /// Returns the next connection that came to this event loop.
     fn arrival(&self) -> Option<Arrival<Self::Session>>;
@@ -48,7 +50,8 @@ pub trait LoopBackend: AsyncBackend {
     /// Returns the seconds since some fixed moment. They never go back.
     fn seconds(&self) -> u64;
 
-    /// Notes that the connection at this place has ended, with the receipts of its calls where they
-    /// are kept.
-    fn ended(&self, slot: usize, receipts: usize, calls: Vec<CallReceipt>);
+    /// Takes the last state of the connection at this place, which has ended. A new connection
+    /// reached it (`Reaches`). There is none if the connection was not taken in.
+    fn ended(&self, slot: usize, receipts: usize, state: Option<ConnectionState<Self::Session>>)
+        requires { IfSome state (λ s. IsReachable (Self.tells self.now) (Self.refuses self.now) (called_by (Self.submits self.now) (Self.finishes self.now)) (Self.finishes self.now) s) };
 }

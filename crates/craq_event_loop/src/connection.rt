@@ -9,7 +9,6 @@ use crate::backend::{Arrival, LoopBackend};
 use crate::socket::{Moved, Socket};
 use crate::traffic::ClientStream;
 use craq_completions::{Outcome, Token};
-use craq_names::Refusal;
 use craq_session::{ConnectionState, Load, Stepped, UnsentCall};
 use mio::event::Event;
 use mio::unix::SourceFd;
@@ -132,8 +131,13 @@ impl<T: Drop> Connection<ClientStream, T> {
 }
 
 impl<S: Socket + Drop, T: Drop> Connection<S, T> {
-    /// Ends the connection and hands its receipts to the backend.
-    pub(crate) fn close<H: LoopBackend>(self, registry: &Registry, backend: &H) {
+    ghost use Rattle.craq_session.specs.Asking.{called_by};
+    ghost use Rattle.craq_event_loop.specs.Reaching.{IsReachable};
+
+    /// Ends the connection and hands its last state to the backend.
+    pub(crate) fn close<H: LoopBackend<Session = T>>(self, registry: &Registry, backend: &H)
+        requires { IsReachable (H.tells backend.now) (H.refuses backend.now) (called_by (H.submits backend.now) (H.finishes backend.now)) (H.finishes backend.now) self.state }
+    {
         let Connection {
             stream,
             state,
@@ -148,13 +152,13 @@ impl<S: Socket + Drop, T: Drop> Connection<S, T> {
         } = self;
         stream.leave(registry);
         drop(stream);
-        backend.ended(slot, receipts, state.into_receipts());
+        backend.ended(slot, receipts, Some(state));
     }
 }
 
 impl<S: Socket, T> Connection<S, T> {
     ghost use Rattle.craq_event_loop.specs.Advancing.{AsksBackend, HasRound, next_call, under_key};
-    ghost use Rattle.craq_event_loop.specs.Belonging.{CameBack, Gives, GivesNow, Hears, HearsNow, KeepsSlot, Reads, TakesCompletion, Writes};
+    ghost use Rattle.craq_event_loop.specs.Belonging.{GetsOutcome, SendsBytes, SendsNow, ReceivesBytes, ReceivesNow, KeepsSlot, Reads, TakesCompletion, Writes};
     ghost use Rattle.craq_event_loop.specs.Busy.{GoesOn, IsBehind, IsDone, IsIdle, is_waiting};
     ghost use Rattle.craq_session.specs.Asking.{called_by};
     ghost use Rattle.craq_event_loop.specs.Readiness.{noticed};
@@ -239,9 +243,10 @@ impl<S: Socket, T> Connection<S, T> {
     }
 
     /// Takes bytes that came.
+    #[tactic(auto, using(crate::proofs::Belonging::heard_waits))]
     fn hear(&mut self, alloc: Global, bytes: &[u8], now: u64)
         requires { self.old.state.phase ≡ Idle }
-        ensures hears { Hears bytes.now self.old.state self.new.state }
+        ensures receives { ReceivesBytes bytes.now self.old.state self.new.state }
         ensures stream { self.new.stream ≡ self.old.stream }
         ensures calls { self.new.calls ≡ self.old.calls }
         ensures busy { self.new.busy ≡ self.old.busy }
@@ -275,7 +280,7 @@ impl<S: Socket, T> Connection<S, T> {
         ensures over { EndsAsSocket S.is_over self.old self.new }
         ensures slot { KeepsSlot self.old self.new }
         ensures ready { ReadsOn S.is_dry self.old self.new }
-        ensures heard { HearsNow now self.old self.new }
+        ensures heard { ReceivesNow now self.old self.new }
     {
         match self.stream.take(chunk) {
             Moved::Bytes(count) => {
@@ -301,7 +306,7 @@ impl<S: Socket, T> Connection<S, T> {
         ensures over { EndsAsSocket S.is_over self.old self.new }
         ensures slot { KeepsSlot self.old self.new }
         ensures ready { ReadsOn S.is_dry self.old self.new }
-        ensures heard { HearsNow now self.old self.new }
+        ensures heard { ReceivesNow now self.old self.new }
     {
         if self.may_read() {
             self.take(alloc, chunk, now);
@@ -311,7 +316,7 @@ impl<S: Socket, T> Connection<S, T> {
     /// Drops the first `count` unsent bytes, which were taken.
     fn given(&mut self, count: usize, now: u64)
         requires { count ≤ length self.old.state.codec.buffers.output.items }
-        ensures gives { Gives (take count self.old.state.codec.buffers.output.items) self.old.state self.new.state }
+        ensures sends { SendsBytes (take count self.old.state.codec.buffers.output.items) self.old.state self.new.state }
         ensures stream { self.new.stream ≡ self.old.stream }
         ensures calls { self.new.calls ≡ self.old.calls }
         ensures over { self.new.over ≡ self.old.over }
@@ -344,7 +349,7 @@ impl<S: Socket, T> Connection<S, T> {
         ensures over { EndsAsSocket S.is_over self.old self.new }
         ensures slot { KeepsSlot self.old self.new }
         ensures ready { WritesOn S.is_full self.old self.new }
-        ensures heard { GivesNow now self.old self.new }
+        ensures heard { SendsNow now self.old self.new }
     {
         if self.over || !self.readiness.writable || self.state.unsent().is_empty() {
             return;
@@ -362,7 +367,7 @@ impl<S: Socket, T> Connection<S, T> {
 
     /// Takes the outcome of the call that is under way.
     fn answer<H: LoopBackend>(&mut self, alloc: Global, backend: &H, outcome: Outcome)
-        ensures reported { CameBack outcome self.old.state self.new.state }
+        ensures reported { GetsOutcome outcome self.old.state self.new.state }
         ensures session { self.new.state.session ≡ self.old.state.session }
         ensures stream { self.new.stream ≡ self.old.stream }
         ensures calls { self.new.calls ≡ self.old.calls }
@@ -386,7 +391,7 @@ impl<S: Socket, T> Connection<S, T> {
         alloc: Global,
         backend: &H,
         call: u64,
-        reply: Result<H::Reply, Refusal>,
+        reply: H::Reply,
     )
         ensures takes { TakesCompletion (H.finishes backend.now) call reply self.old self.new }
         ensures busy { self.new.busy ≡ self.old.busy }
@@ -477,7 +482,7 @@ impl<S: Socket, T> Connection<S, T> {
         ensures over { EndsInOrder S.is_over self.old self.new }
         ensures slot { KeepsSlot self.old self.new }
         ensures ready { WritesOn S.is_full self.old self.new }
-        ensures heard { GivesNow now self.old self.new }
+        ensures heard { SendsNow now self.old self.new }
     {
         self.write(now);
         if self.has_said_all() {

@@ -1,15 +1,18 @@
 //! `EventLoop`: an event loop. It takes what came, steps each connection that is busy, and sleeps
 //! where none is.
-ghost use Rattle.std.specs.Prelude.{◌≡◌, ◌≢◌, ◌⊎◌, ◌<◌, ◌≤◌, ◌↔◌, ◌++◌, ℕ, Bool, [], ◌∷◌, Some, None, IfOk, OnErr, OnOk, IsTrue, false, filter, nat_lt, option_map, vec_capacity, vec_len, if◌then◌else◌};
+ghost use Rattle.std.specs.Prelude.{◌≡◌, ◌≢◌, ◌⊎◌, ◌<◌, ◌≤◌, ◌↔◌, ◌++◌, ℕ, Bool, [], ◌∷◌, Some, None, IfOk, OnErr, OnOk, IsTrue, drop, false, filter, nat_lt, option_map, take, if◌then◌else◌};
 ghost use Rattle.std.specs.Duration.{as_nanos};
+ghost use Rattle.std.specs.VecDeque.{deque_capacity, deque_len};
 ghost use Rattle.mio.specs.Events.{items};
 ghost use Rattle.slab.specs.Slab.{get, slab_len};
 ghost use Rattle.craq_session.specs.Asking.{called_by};
 ghost use Rattle.craq_event_loop.specs.declared.connection.Connection.{Connection};
 ghost use Rattle.craq_event_loop.specs.Advancing.{HasRoundAt, TakeRounds, most_steps};
 ghost use Rattle.craq_event_loop.specs.Belonging.{Delivers, DeliversAll, DeliversBrought, OneByOne, OthersStay, StaysVacant, Wakes};
-ghost use Rattle.craq_event_loop.specs.Busy.{HasNone, ListsBehind, ListsMarked, LooksAgain, NoneBehind, NoneForgotten, is_marked, longest_wait, with_key};
+ghost use Rattle.craq_event_loop.specs.Busy.{HasNone, ListsMarked, LooksAgain, MarksJustBehind, NoneBehind, NoneForgotten, Rests, is_marked, longest_wait, with_key};
 ghost use Rattle.craq_event_loop.specs.Coming.{AllReported, ChangesRoom, EndsIdle, ClosesIfIdle, LooksAt, NoticesAt, PresentStay, TakesIn, TellsOf};
+ghost use Rattle.craq_event_loop.specs.Reaching.{AreReachable, StayReachable};
+ghost use Rattle.craq_event_loop.specs.Rounds.{MoveUp, left_after, most_behind};
 ghost use Rattle.craq_event_loop.specs.Serving.{ReadsAt, Serves, WritesAt};
 
 use crate::backend::{Arrival, LoopBackend};
@@ -17,13 +20,12 @@ use crate::connection::{Connection, Share};
 use crate::socket::Socket;
 use crate::traffic::ClientStream;
 use craq_completions::Completion;
-use craq_names::Refusal;
 use craq_session::Load;
 use mio::event::{Event, Events};
 use mio::{Poll, Registry, Token, Waker};
 use slab::Slab;
 use std::alloc::{AllocError, Global};
-use std::mem;
+use std::collections::VecDeque;
 use std::net::Net;
 use std::sync::Wait;
 use std::time::Duration;
@@ -37,26 +39,30 @@ const CHUNK_SIZE: usize = 65_536;
 /// The most connections whose readiness is reported at once.
 const MOST_EVENTS: usize = 256;
 
-/// The most connections that count as few.
-const LIGHT_LOAD: usize = 2;
+/// The most connections with which the event loop looks for work before it sleeps.
+const MOST_POLLED: usize = 2;
 
-/// The most steps of a busy connection in a round: those of one request. This project's profile.
-const MOST_STEPS: usize = 2;
+/// The most busy connections whose updates the event loop takes through the chain itself.
+const LIGHT_LOAD: usize = 4;
+
+/// The most steps of a connection in its share: those of one request, and one that looks for the
+/// next. So a reply behind which nothing waits is written at once. This project's profile.
+const MOST_STEPS: usize = 3;
 
 /// The number of looks for work of an event loop with few connections before it sleeps: some 60
 /// microseconds.
 const MOST_LOOKS: u32 = 200;
 
-/// Returns the share of each busy connection in a round: 2 steps, which a request takes. So a
-/// connection that sends many requests at once holds up the others no longer than one that waits for
-/// each reply.
+/// Returns the share of each connection, where this number of them have news or work left: 3 steps,
+/// and a request takes 2. So a connection that sends many requests at once holds up the others
+/// hardly longer than one that waits for each reply.
 fn share_of(busy: usize) -> Share
     ensures { result.steps ≡ most_steps }
 {
-    let load = if busy <= LIGHT_LOAD {
-        Load::Light
-    } else {
-        Load::Full
+    let load = match busy {
+        0 | 1 => Load::Single,
+        _ if busy <= LIGHT_LOAD => Load::Light,
+        _ => Load::Full,
     };
     Share {
         steps: MOST_STEPS,
@@ -143,6 +149,7 @@ fn give_at<S: Socket + Drop, H: LoopBackend>(
     key: usize,
     now: u64,
 ) -> bool
+    requires { AreReachable (H.tells backend.now) (H.refuses backend.now) (called_by (H.submits backend.now) (H.finishes backend.now)) (H.finishes backend.now) connections.old }
     ensures writes { WritesAt S.remaining S.contents S.is_over S.is_dry S.is_full connections.old connections.new key }
     ensures vacant { StaysVacant connections.old connections.new key }
     ensures others { OthersStay connections.old connections.new key }
@@ -162,12 +169,12 @@ fn give_at<S: Socket + Drop, H: LoopBackend>(
 }
 
 /// Appends a key where it is to be kept and there is room for it.
-fn keep_where(keys: &mut Vec<usize>, key: usize, is_kept: bool)
-    ensures keys { vec_len keys.old < vec_capacity keys.old → keys.new.items ≡ (if is_kept then keys.old.items ++ key ∷ [] else keys.old.items) }
-    ensures capacity { vec_capacity keys.old ≤ vec_capacity keys.new }
+fn keep_where(keys: &mut VecDeque<usize>, key: usize, is_kept: bool)
+    ensures keys { deque_len keys.old < deque_capacity keys.old → keys.new.items ≡ (if is_kept then keys.old.items ++ key ∷ [] else keys.old.items) }
+    ensures capacity { deque_capacity keys.old ≤ deque_capacity keys.new }
 {
     if is_kept {
-        let _ = keys.push(key);
+        let _ = keys.push_back(key);
     }
 }
 
@@ -176,12 +183,13 @@ fn keep_where(keys: &mut Vec<usize>, key: usize, is_kept: bool)
 struct Members<S, T, P: Drop> {
     alloc: Global,
     connections: Slab<Connection<S, T>>,
-    /// The busy connections, each once.
+    /// The connections with news, each once. A round serves all of them.
     busy: Vec<usize>,
-    /// Those of them that have work left after their share.
-    later: Vec<usize>,
+    /// Those that have work left after their share, each once: the first has waited longest. A
+    /// round serves it, and no other of them.
+    behind: VecDeque<usize>,
     /// The completions that came.
-    completions: Vec<Completion<Result<P, Refusal>>>,
+    completions: Vec<Completion<P>>,
     /// The buffer of one read.
     chunk: Vec<u8>,
     /// True where the receipts of calls are kept.
@@ -205,7 +213,7 @@ impl<S: Socket + Drop, T: Drop, P: Drop> Members<S, T, P> {
             alloc,
             connections: Slab::new(alloc),
             busy: Vec::new(alloc),
-            later: Vec::new(alloc),
+            behind: VecDeque::new(alloc),
             completions: Vec::new(alloc),
             chunk,
             keep_receipts,
@@ -218,9 +226,10 @@ impl<S: Socket + Drop, T: Drop, P: Drop> Members<S, T, P> {
     /// Marks a connection as busy: appends its key to the busy list where the list did not name it.
     /// The list is unchanged where none is under the key.
     fn wake(&mut self, key: usize)
-        ensures listed { ListsMarked self.old.connections self.old.busy self.old.later → ListsMarked self.new.connections self.new.busy self.new.later }
-        ensures busy { ListsMarked self.old.connections self.old.busy self.old.later
+        ensures listed { ListsMarked self.old.connections self.old.busy self.old.behind → ListsMarked self.new.connections self.new.busy self.new.behind }
+        ensures busy { ListsMarked self.old.connections self.old.busy self.old.behind
             → self.new.busy.items ≡ with_key self.old.busy.items key (get self.old.connections key) }
+        ensures behind { self.new.behind ≡ self.old.behind }
         ensures completions { self.new.completions.items ≡ self.old.completions.items }
         ensures idle { self.new.idle ≡ self.old.idle }
         ensures wakes { Wakes self.old.connections self.new.connections key }
@@ -240,6 +249,7 @@ impl<S: Socket + Drop, T: Drop, P: Drop> Members<S, T, P> {
     fn take_completions<H: LoopBackend<Session = T, Reply = P>>(&mut self, backend: &H)
         ensures kept { NoneForgotten self.old → NoneForgotten self.new }
         ensures delivered { DeliversBrought (H.finishes backend.now) (H.brings backend.now self.old.completions.items) self.old.connections self.new.connections }
+        ensures behind { self.new.behind ≡ self.old.behind }
         ensures none_left { self.new.completions.items ≡ [] }
     {
         backend.take_completions(&mut self.completions);
@@ -251,6 +261,7 @@ impl<S: Socket + Drop, T: Drop, P: Drop> Members<S, T, P> {
     fn deliver_all<H: LoopBackend<Session = T, Reply = P>>(&mut self, backend: &H)
         ensures kept { NoneForgotten self.old → NoneForgotten self.new }
         ensures delivered { DeliversAll (H.finishes backend.now) self.old.completions.items self.old.connections self.new.connections }
+        ensures behind { self.new.behind ≡ self.old.behind }
         ensures none_left { self.new.completions.items ≡ [] }
     {
         for _completion in 0..self.completions.len() {
@@ -266,9 +277,10 @@ impl<S: Socket + Drop, T: Drop, P: Drop> Members<S, T, P> {
     fn deliver<H: LoopBackend<Session = T, Reply = P>>(
         &mut self,
         backend: &H,
-        completion: Completion<Result<P, Refusal>>,
+        completion: Completion<P>,
     )
         ensures kept { NoneForgotten self.old → NoneForgotten self.new }
+        ensures behind { self.new.behind ≡ self.old.behind }
         ensures completions { self.new.completions.items ≡ self.old.completions.items }
         ensures reported { Delivers (H.finishes backend.now) self.old.connections self.new.connections completion.token completion.reply }
         ensures vacant { StaysVacant self.old.connections self.new.connections completion.token.connection }
@@ -310,7 +322,7 @@ impl<S: Socket + Drop, T: Drop, P: Drop> Members<S, T, P> {
     fn read_all(&mut self)
         ensures reads { OneByOne (ReadsAt S.remaining S.contents S.is_over S.is_dry S.is_full) self.old.busy.items self.old.connections self.new.connections }
         ensures busy { self.new.busy ≡ self.old.busy }
-        ensures later { self.new.later ≡ self.old.later }
+        ensures behind { self.new.behind ≡ self.old.behind }
     {
         for key in self.busy.iter() {
             read_at(
@@ -328,51 +340,85 @@ impl<S: Socket + Drop, T: Drop, P: Drop> Members<S, T, P> {
     fn advance_all<H: LoopBackend<Session = T>>(&mut self, backend: &H)
         ensures rounds { TakeRounds (H.tells backend.now) (H.refuses backend.now) (called_by (H.submits backend.now) (H.finishes backend.now)) self.old.busy.items self.old.connections self.new.connections }
         ensures busy { self.new.busy ≡ self.old.busy }
-        ensures later { self.new.later ≡ self.old.later }
+        ensures behind { self.new.behind ≡ self.old.behind }
     {
-        let share = share_of(self.busy.len());
+        let share = share_of(self.busy.len().saturating_add(self.behind.len()));
         for key in self.busy.iter() {
             advance_at(self.alloc, &mut self.connections, backend, *key, share);
         }
     }
 
     /// Writes for the busy connections, one after another, and no other connection changes. Each is
-    /// removed exactly where it is done. The list then names those that are still there and have
-    /// work left, in the order in which it named them.
+    /// removed exactly where it is done. Those that are still there and have work left then wait
+    /// behind those that waited before, and no connection is busy.
     fn give_all<H: LoopBackend<Session = T>>(&mut self, registry: &Registry, backend: &H)
+        requires { AreReachable (H.tells backend.now) (H.refuses backend.now) (called_by (H.submits backend.now) (H.finishes backend.now)) (H.finishes backend.now) self.old.connections }
         ensures writes { OneByOne (WritesAt S.remaining S.contents S.is_over S.is_dry S.is_full) self.old.busy.items self.old.connections self.new.connections }
-        ensures listed { ListsMarked self.old.connections self.old.busy self.old.later → ListsMarked self.new.connections self.new.busy self.new.later }
-        ensures in_order { ListsMarked self.old.connections self.old.busy self.old.later
-            → self.new.busy.items ≡ filter (λ key. is_marked (get self.new.connections key)) self.old.busy.items }
+        ensures listed { ListsMarked self.old.connections self.old.busy self.old.behind → ListsMarked self.new.connections self.new.busy self.new.behind }
+        ensures behind { ListsMarked self.old.connections self.old.busy self.old.behind
+            → self.new.behind.items ≡ self.old.behind.items ++ filter (λ key. is_marked (get self.new.connections key)) self.old.busy.items }
+        ensures none_busy { self.new.busy.items ≡ [] }
     {
         for key in self.busy.iter() {
             let stays = give_at(&mut self.connections, registry, backend, *key, self.now);
             // There is room for the key of each connection.
-            keep_where(&mut self.later, *key, stays);
+            keep_where(&mut self.behind, *key, stays);
         }
         self.busy.clear();
-        mem::swap(&mut self.busy, &mut self.later);
     }
 
     /// Serves each busy connection once. All are read before the first takes its steps, and all
     /// have taken them before the first is written to: so a processor does one kind of work for a
-    /// while. The list then names exactly the connections that are behind, in the order in which it
-    /// named them before.
+    /// while, and the updates of few connections go through the chain together. Exactly those that
+    /// are behind then wait, after those that waited before; and no connection is busy.
     fn step_all<H: LoopBackend<Session = T>>(&mut self, registry: &Registry, backend: &H)
+        requires { AreReachable (H.tells backend.now) (H.refuses backend.now) (called_by (H.submits backend.now) (H.finishes backend.now)) (H.finishes backend.now) self.old.connections }
         ensures kept { NoneForgotten self.old → NoneForgotten self.new }
-        ensures behind { NoneForgotten self.old → ListsBehind self.new.connections self.new.busy.items }
-        ensures in_order { NoneForgotten self.old → self.new.busy.items ≡ filter (λ key. is_marked (get self.new.connections key)) self.old.busy.items }
+        ensures marks { MarksJustBehind self.new.connections self.old.busy.items }
+        ensures behind { NoneForgotten self.old → self.new.behind.items ≡ self.old.behind.items ++ filter (λ key. is_marked (get self.new.connections key)) self.old.busy.items }
+        ensures none_busy { self.new.busy.items ≡ [] }
         ensures serves { Serves S.remaining S.contents S.is_over S.is_dry S.is_full (H.tells backend.now) (H.refuses backend.now) (called_by (H.submits backend.now) (H.finishes backend.now)) self.old.busy.items self.old.connections self.new.connections }
     {
         self.read_all();
         self.advance_all(backend);
+        backend.run_queued();
         self.give_all(registry, backend);
+    }
+
+    /// Makes the connection busy that has waited longest for its next share. It waits no longer.
+    fn resume(&mut self)
+        ensures kept { NoneForgotten self.old → NoneForgotten self.new }
+        ensures busy { NoneForgotten self.old → self.new.busy.items ≡ self.old.busy.items ++ take most_behind self.old.behind.items }
+        ensures behind { self.new.behind.items ≡ drop most_behind self.old.behind.items }
+        ensures connections { self.new.connections ≡ self.old.connections }
+    {
+        if let Some(key) = self.behind.pop_front() {
+            // There is room for the key of each connection.
+            let _ = self.busy.push(key);
+        }
+    }
+
+    /// Serves the connection once that has waited longest for its next share. It waits again, after
+    /// the others, exactly if it is behind.
+    fn go_on<H: LoopBackend<Session = T>>(&mut self, registry: &Registry, backend: &H)
+        requires idle { self.old.busy.items ≡ [] }
+        requires kept { NoneForgotten self.old }
+        requires reachable { AreReachable (H.tells backend.now) (H.refuses backend.now) (called_by (H.submits backend.now) (H.finishes backend.now)) (H.finishes backend.now) self.old.connections }
+        ensures kept { NoneForgotten self.new }
+        ensures marks { MarksJustBehind self.new.connections (take most_behind self.old.behind.items) }
+        ensures behind { self.new.behind.items ≡ left_after (λ key. is_marked (get self.new.connections key)) self.old.behind.items }
+        ensures none_busy { self.new.busy.items ≡ [] }
+        ensures serves { Serves S.remaining S.contents S.is_over S.is_dry S.is_full (H.tells backend.now) (H.refuses backend.now) (called_by (H.submits backend.now) (H.finishes backend.now)) (take most_behind self.old.behind.items) self.old.connections self.new.connections }
+    {
+        self.resume();
+        self.step_all(registry, backend);
     }
 
     /// Ends the connections that were left idle, once a second; each is then busy, to be removed.
     /// No other one changes.
     fn look_for_idle(&mut self, now: u64)
         ensures kept { NoneForgotten self.old → NoneForgotten self.new }
+        ensures behind { self.new.behind ≡ self.old.behind }
         ensures ends { now ≢ self.old.now → EndsIdle now self.old.idle self.old.connections self.new.connections }
         ensures else_stays { now ≡ self.old.now → self.new ≡ self.old }
     {
@@ -389,6 +435,7 @@ impl<S: Socket + Drop, T: Drop, P: Drop> Members<S, T, P> {
     /// other connection changes.
     fn end_idle(&mut self, key: usize, now: u64)
         ensures kept { NoneForgotten self.old → NoneForgotten self.new }
+        ensures behind { self.new.behind ≡ self.old.behind }
         ensures ends { ClosesIfIdle now self.old.idle (get self.old.connections key) (get self.new.connections key) }
         ensures others { OthersStay self.old.connections self.new.connections key }
         ensures idle { self.new.idle ≡ self.old.idle }
@@ -403,7 +450,14 @@ impl<S: Socket + Drop, T: Drop, P: Drop> Members<S, T, P> {
     fn looks_again(&self) -> bool
         ensures { IsTrue result ↔ LooksAgain self.entry.now }
     {
-        self.connections.len() <= LIGHT_LOAD && self.looks < MOST_LOOKS
+        self.connections.len() <= MOST_POLLED && self.looks < MOST_LOOKS
+    }
+
+    /// Returns whether no connection has news or work left.
+    fn rests(&self) -> bool
+        ensures { IsTrue result ↔ Rests self.entry.now }
+    {
+        self.busy.is_empty() && self.behind.is_empty()
     }
 
     /// Returns how long to wait for readiness: not at all exactly where work is left, may come soon
@@ -411,14 +465,14 @@ impl<S: Socket + Drop, T: Drop, P: Drop> Members<S, T, P> {
     /// it waits at all, no connection has work left of which no event and no completion will
     /// report.
     fn pause<H: LoopBackend>(&self, backend: &H) -> Option<Duration>
-        requires { ListsBehind self.now.connections self.now.busy.items }
+        requires { NoneForgotten self.now }
         ensures behind { (option_map as_nanos result ≡ Some 0) ⊎ NoneBehind self.entry.now.connections }
-        ensures busy { self.entry.now.busy.items ≢ [] → option_map as_nanos result ≡ Some 0 }
+        ensures busy { ¬ (Rests self.entry.now) → option_map as_nanos result ≡ Some 0 }
         ensures looks { LooksAgain self.entry.now → option_map as_nanos result ≡ Some 0 }
-        ensures else_as_reported { self.entry.now.busy.items ≡ [] → ¬ (LooksAgain self.entry.now)
+        ensures else_as_reported { Rests self.entry.now → ¬ (LooksAgain self.entry.now)
             → (may : Bool) × H.lets_sleep backend.now may × (option_map as_nanos result ≡ (if may then longest_wait self.entry.now.idle else Some 0)) }
     {
-        if !self.busy.is_empty() || self.looks_again() {
+        if !self.rests() || self.looks_again() {
             return Some(Duration::from_millis(0));
         }
         if !backend.may_sleep() {
@@ -443,7 +497,7 @@ impl<T: Drop, P: Drop> Members<ClientStream, T, P> {
             return Err(AllocError);
         };
         self.busy.reserve(count)?;
-        self.later.reserve(count)?;
+        self.behind.reserve(count)?;
         self.connections.reserve(1)?;
         let key = self.connections.vacant_key();
         let Ok(connection) = Connection::open(
@@ -466,6 +520,8 @@ impl<T: Drop, P: Drop> Members<ClientStream, T, P> {
     fn take_arrivals<H: LoopBackend<Session = T>>(&mut self, registry: &Registry, backend: &H)
         ensures kept { NoneForgotten self.old → NoneForgotten self.new }
         ensures stay { NoneForgotten self.old → PresentStay self.old.connections self.new.connections }
+        ensures behind { NoneForgotten self.old → self.new.behind.items ≡ self.old.behind.items }
+        ensures reachable { NoneForgotten self.old → StayReachable (H.tells backend.now) (H.refuses backend.now) (called_by (H.submits backend.now) (H.finishes backend.now)) (H.finishes backend.now) self.old.connections self.new.connections }
     {
         for _ in 0..usize::MAX {
             let Some(arrival) = backend.arrival() else {
@@ -474,45 +530,61 @@ impl<T: Drop, P: Drop> Members<ClientStream, T, P> {
             let slot = arrival.slot;
             let receipts = arrival.receipts;
             if self.take_in(registry, arrival).is_err() {
-                backend.ended(slot, receipts, Vec::new(self.alloc));
+                backend.ended(slot, receipts, None);
             }
         }
     }
 
-    /// Makes a round: takes what came, and serves each busy connection. The list then names exactly
-    /// the connections that are behind.
+    /// Makes a round: takes what came, serves all connections with news, and then one of those with
+    /// work left (`go_on`). So news waits for one share of those that sent many requests, and each of
+    /// these is served after as many rounds as others waited before it. None is forgotten. Each
+    /// connection's state stays one that a new connection reaches (`Reaches`).
     fn round<H: LoopBackend<Session = T, Reply = P>>(&mut self, registry: &Registry, backend: &H)
-        ensures kept { NoneForgotten self.old → NoneForgotten self.new }
-        ensures behind { NoneForgotten self.old → ListsBehind self.new.connections self.new.busy.items }
+        requires kept { NoneForgotten self.old }
+        requires reachable { AreReachable (H.tells backend.now) (H.refuses backend.now) (called_by (H.submits backend.now) (H.finishes backend.now)) (H.finishes backend.now) self.old.connections }
+        ensures kept { NoneForgotten self.new }
+        ensures none_busy { self.new.busy.items ≡ [] }
+        ensures behind { MoveUp self.old.behind.items self.new.behind.items }
+        ensures reachable { AreReachable (H.tells backend.now) (H.refuses backend.now) (called_by (H.submits backend.now) (H.finishes backend.now)) (H.finishes backend.now) self.new.connections }
     {
         // Completions first: what comes from then on keeps the thread awake, so no arrival is left
         // behind.
         self.take_completions(backend);
         self.take_arrivals(registry, backend);
         self.step_all(registry, backend);
+        self.go_on(registry, backend);
     }
 
-    /// Makes another round if no connection has work left. The list then names just the connections
-    /// of the thread that are behind, if it did before.
+    /// Makes another round if no connection has work left. No connection with work left is
+    /// forgotten.
     fn round_again<H: LoopBackend<Session = T, Reply = P>>(
         &mut self,
         registry: &Registry,
         backend: &H,
     )
-        ensures kept { NoneForgotten self.old → NoneForgotten self.new }
-        ensures behind { NoneForgotten self.old → ListsBehind self.old.connections self.old.busy.items → ListsBehind self.new.connections self.new.busy.items }
+        requires kept { NoneForgotten self.old }
+        requires reachable { AreReachable (H.tells backend.now) (H.refuses backend.now) (called_by (H.submits backend.now) (H.finishes backend.now)) (H.finishes backend.now) self.old.connections }
+        ensures kept { NoneForgotten self.new }
+        ensures none_busy { self.old.busy.items ≡ [] → self.new.busy.items ≡ [] }
+        ensures behind { (self.new ≡ self.old) ⊎ (self.old.behind.items ≡ []) }
+        ensures reachable { AreReachable (H.tells backend.now) (H.refuses backend.now) (called_by (H.submits backend.now) (H.finishes backend.now)) (H.finishes backend.now) self.new.connections }
     {
-        if self.busy.is_empty() {
+        if self.rests() {
             self.round(registry, backend);
         }
     }
 
     /// Makes a round. Makes another one if no connection has work left, for the replies that came
-    /// meanwhile to the calls of the first: they are written before the next look at readiness. The
-    /// list then names just the connections of the thread that are behind.
+    /// meanwhile to the calls of the first: they are written before the next look at readiness. No
+    /// connection with work left is forgotten. Each connection's state stays one that a new
+    /// connection reaches (`Reaches`).
     fn run_once<H: LoopBackend<Session = T, Reply = P>>(&mut self, registry: &Registry, backend: &H)
-        ensures kept { NoneForgotten self.old → NoneForgotten self.new }
-        ensures behind { NoneForgotten self.old → ListsBehind self.new.connections self.new.busy.items }
+        requires kept { NoneForgotten self.old }
+        requires reachable { AreReachable (H.tells backend.now) (H.refuses backend.now) (called_by (H.submits backend.now) (H.finishes backend.now)) (H.finishes backend.now) self.old.connections }
+        ensures kept { NoneForgotten self.new }
+        ensures none_busy { self.new.busy.items ≡ [] }
+        ensures behind { MoveUp self.old.behind.items self.new.behind.items }
+        ensures reachable { AreReachable (H.tells backend.now) (H.refuses backend.now) (called_by (H.submits backend.now) (H.finishes backend.now)) (H.finishes backend.now) self.new.connections }
     {
         self.looks = self.looks.saturating_add(1);
         if self.idle > 0 {
@@ -591,7 +663,7 @@ impl EventLoop {
                 break;
             }
             let pause = members.pause(backend);
-            if members.busy.is_empty() && pause.is_some_and(|wait| wait.is_zero()) {
+            if members.rests() && pause.is_some_and(|wait| wait.is_zero()) {
                 // It only looks again: a thread that has work comes first on this processor.
                 let _ = libc::sched_yield();
             }

@@ -1,4 +1,5 @@
 use Rattle.std.proofs.Common.{◌≡◌, ◌≤◌, ◌++◌, ◌∙◌, ℕ, List, [], ◌∷◌, ap, sym, vec_capacity, arith}
+use Rattle.std.specs.VecDeque.{deque_capacity}
 use Rattle.slab.specs.Slab.{get, slab_len}
 use Rattle.craq_event_loop.proofs.Busy.{behind_same, listed_grown}
 use Rattle.craq_event_loop.proofs.Coming.{behind_taken, listed_more_room, same_len, same_slots, same_values}
@@ -8,7 +9,7 @@ use Rattle.craq_event_loop.proofs.event_loop.Members+ClientStream+T+P.take_in.Go
 pub returns-in_err-reserve-3-clause-kept : goal.returns-in_err-reserve-3-clause-kept
 returns-in_err-reserve-3-clause-kept g c k = record {
   listed =
-      listed_grown c.args.self.now.connections c.reserve-3.new.self c.args.self.now.busy c.args.self.now.later c.reserve.new.self c.reserve-2.new.self k.listed
+      listed_grown c.args.self.now.connections c.reserve-3.new.self c.args.self.now.busy c.reserve.new.self c.args.self.now.behind c.reserve-2.new.self k.listed
       (same_slots c.args.self.now.connections c.reserve-3.new.self c.reserve-3.ensures.rest_kept)
       c.reserve.ensures.items c.reserve-2.ensures.items c.reserve.ensures.capacity c.reserve-2.ensures.capacity;
   behind =
@@ -19,7 +20,7 @@ returns-in_err-reserve-3-clause-kept g c k = record {
 pub returns-in_default-open-clause-kept : goal.returns-in_default-open-clause-kept
 returns-in_default-open-clause-kept g c k = record {
   listed =
-      listed_grown c.args.self.now.connections c.reserve-3.new.self c.args.self.now.busy c.args.self.now.later c.reserve.new.self c.reserve-2.new.self k.listed
+      listed_grown c.args.self.now.connections c.reserve-3.new.self c.args.self.now.busy c.reserve.new.self c.args.self.now.behind c.reserve-2.new.self k.listed
       (same_slots c.args.self.now.connections c.reserve-3.new.self c.reserve-3.ensures.rest_kept)
       c.reserve.ensures.items c.reserve-2.ensures.items c.reserve.ensures.capacity c.reserve-2.ensures.capacity;
   behind =
@@ -33,14 +34,14 @@ returns-clause-kept g c k =
     let count : slab_len c.insert_reserved-key.new.self ≡ c.in-Some.count =
     omega (arith, c.insert_reserved-key.ensures.len, same_len c.args.self.now.connections c.reserve-3.new.self same, c.len.ensures, c.in-Some.ensures.1) in
     let room : slab_len c.insert_reserved-key.new.self ≤ vec_capacity c.reserve.new.self = omega (arith, count, c.in_ok-reserve.ensures.ok) in
-    let room_later : slab_len c.insert_reserved-key.new.self ≤ vec_capacity c.reserve-2.new.self = omega (arith, count, c.in_ok-reserve-2.ensures.ok) in
+    let room_behind : slab_len c.insert_reserved-key.new.self ≤ deque_capacity c.reserve-2.new.self = omega (arith, count, c.in_ok-reserve-2.ensures.ok) in
     record {
       listed = c.wake.ensures.listed (
-          listed_more_room c.args.self.now.connections c.reserve-3.new.self c.insert_reserved-key.new.self c.args.self.now.busy c.args.self.now.later
-          c.reserve.new.self c.reserve-2.new.self c.insert_reserved-key.result c.in-Ok.connection k.listed same
+          listed_more_room c.args.self.now.connections c.reserve-3.new.self c.insert_reserved-key.new.self c.args.self.now.busy c.reserve.new.self
+          c.args.self.now.behind c.reserve-2.new.self c.insert_reserved-key.result c.in-Ok.connection k.listed same
           c.reserve.ensures.items c.reserve-2.ensures.items c.reserve.ensures.capacity c.reserve-2.ensures.capacity
           c.insert_reserved-key.ensures.was_vacant c.insert_reserved-key.ensures.updates.changed c.in-Ok.ensures.is_new.unmarked
-          c.insert_reserved-key.ensures.updates.others room room_later);
+          c.insert_reserved-key.ensures.updates.others room room_behind);
       behind =
           behind_taken c.args.self.now.connections c.reserve-3.new.self c.insert_reserved-key.new.self c.wake.new.self.connections c.insert_reserved-key.result
           k.behind same c.insert_reserved-key.ensures.updates.others c.wake.ensures.wakes c.wake.ensures.vacant c.wake.ensures.others;
@@ -52,7 +53,7 @@ returns-clause-taken g c k =
     let count : slab_len c.insert_reserved-key.new.self ≡ c.in-Some.count =
     omega (arith, c.insert_reserved-key.ensures.len, same_len c.args.self.now.connections c.reserve-3.new.self same, c.len.ensures, c.in-Some.ensures.1) in
     let room : slab_len c.insert_reserved-key.new.self ≤ vec_capacity c.reserve.new.self = omega (arith, count, c.in_ok-reserve.ensures.ok) in
-    let room_later : slab_len c.insert_reserved-key.new.self ≤ vec_capacity c.reserve-2.new.self = omega (arith, count, c.in_ok-reserve-2.ensures.ok) in
+    let room_behind : slab_len c.insert_reserved-key.new.self ≤ deque_capacity c.reserve-2.new.self = omega (arith, count, c.in_ok-reserve-2.ensures.ok) in
     record {
       key = c.insert_reserved-key.result;
       connection = c.in-Ok.connection;
@@ -62,14 +63,15 @@ returns-clause-taken g c k =
       here = c.wake.ensures.wakes c.in-Ok.connection c.insert_reserved-key.ensures.updates.changed;
       listed =
           c.wake.ensures.busy (
-          listed_more_room c.args.self.now.connections c.reserve-3.new.self c.insert_reserved-key.new.self c.args.self.now.busy c.args.self.now.later
-          c.reserve.new.self c.reserve-2.new.self c.insert_reserved-key.result c.in-Ok.connection k.listed same
+          listed_more_room c.args.self.now.connections c.reserve-3.new.self c.insert_reserved-key.new.self c.args.self.now.busy c.reserve.new.self
+          c.args.self.now.behind c.reserve-2.new.self c.insert_reserved-key.result c.in-Ok.connection k.listed same
           c.reserve.ensures.items c.reserve-2.ensures.items c.reserve.ensures.capacity c.reserve-2.ensures.capacity
           c.insert_reserved-key.ensures.was_vacant c.insert_reserved-key.ensures.updates.changed c.in-Ok.ensures.is_new.unmarked
-          c.insert_reserved-key.ensures.updates.others room room_later)
+          c.insert_reserved-key.ensures.updates.others room room_behind)
           ∙ key_comes c.reserve.new.self.items c.insert_reserved-key.result (get c.insert_reserved-key.new.self c.insert_reserved-key.result) c.in-Ok.connection
           c.insert_reserved-key.ensures.updates.changed c.in-Ok.ensures.is_new.unmarked
           ∙ ap (λ (keys : List ℕ). keys ++ c.insert_reserved-key.result ∷ []) c.reserve.ensures.items;
+      behind = ap (λ v. v.items) c.wake.ensures.behind ∙ c.reserve-2.ensures.items;
       others = λ other differs.
           c.wake.ensures.others other differs ∙ (c.insert_reserved-key.ensures.updates.others other differs
           ∙ same_values c.args.self.now.connections c.reserve-3.new.self same other);

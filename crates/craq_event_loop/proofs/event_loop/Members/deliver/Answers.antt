@@ -11,7 +11,7 @@ returns-clause-reported g c =
 pub returns-clause-kept : goal.returns-clause-kept
 returns-clause-kept g c k = record {
   listed = c.wake.ensures.listed (
-      same_listed c.args.self.now.connections c.args.self.now.busy c.args.self.now.later c.args.completion.token.connection c.in-Some.addressee.now
+      same_listed c.args.self.now.connections c.args.self.now.busy c.args.self.now.behind c.args.completion.token.connection c.in-Some.addressee.now
       c.take_reply.new.self k.listed (sym c.in-Some.ensures.value) c.take_reply.ensures.busy);
   behind =
       behind_changed c.args.self.now.connections c.wake.new.self.connections c.args.completion.token.connection c.in-Some.addressee.now

@@ -1,9 +1,9 @@
-use Rattle.std.proofs.Common.{◌≡◌, [], ◌∷◌, ◌++◌, length, arith}
+use Rattle.std.proofs.Common.{◌≡◌, [], ◌∷◌, ◌++◌, ◌∙◌, length, refl, arith}
 use Rattle.craq_event_loop.proofs.Belonging.{all_left, one_less, one_shorter, last_left, none_left, none_long}
 use Rattle.craq_event_loop.proofs.event_loop.Members.deliver_all.Goals as goal
 
 pub loop-completion-init : goal.loop-completion-init
-loop-completion-init g c = (all_left (g.H.AsyncBackend.finishes c.args.backend.now) c.args.self.now.completions.items c.args.self.now.connections, omega arith, λ k. k)
+loop-completion-init g c = (all_left (g.H.AsyncBackend.finishes c.args.backend.now) c.args.self.now.completions.items c.args.self.now.connections, omega arith, λ k. k, refl)
 
 pub loop-completion-preserved : goal.loop-completion-preserved
 loop-completion-preserved g c =
@@ -15,6 +15,7 @@ loop-completion-preserved g c =
       one_shorter c.loop-completion.self.completions.items c.deliver.new.self.completions.items c.in-Some.completion c.loop-completion._completion
           (length c.args.self.now.completions.items) last c.loop-completion.invariant.1,
       λ k. c.deliver.ensures.kept (record { listed = (c.loop-completion.invariant.2 k).listed; behind = (c.loop-completion.invariant.2 k).behind }),
+      c.deliver.ensures.behind ∙ c.loop-completion.invariant.3,
     )
 
 pub returns-after-loop-completion-clause-delivered : goal.returns-after-loop-completion-clause-delivered
@@ -35,3 +36,9 @@ returns-after-loop-completion-clause-kept g c k = record { listed = (c.loop-comp
 
 pub returns-in_default-clause-kept : goal.returns-in_default-clause-kept
 returns-in_default-clause-kept g c k = record { listed = (c.loop-completion.invariant.2 k).listed; behind = (c.loop-completion.invariant.2 k).behind }
+
+pub returns-after-loop-completion-clause-behind : goal.returns-after-loop-completion-clause-behind
+returns-after-loop-completion-clause-behind g c = c.loop-completion.invariant.3
+
+pub returns-in_default-clause-behind : goal.returns-in_default-clause-behind
+returns-in_default-clause-behind g c = c.loop-completion.invariant.3

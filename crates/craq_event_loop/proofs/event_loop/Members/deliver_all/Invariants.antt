@@ -8,3 +8,4 @@ invariant-loop-completion g l =
     AreLeft (g.H.AsyncBackend.finishes l.fn.backend) l.fn.self.completions.items l.self.completions.items l.fn.self.connections l.self.connections
     × (length l.self.completions.items + l._completion ≡ length l.fn.self.completions.items)
     × (NoneForgotten l.fn.self → NoneForgotten l.self)
+    × (l.self.behind ≡ l.fn.self.behind)

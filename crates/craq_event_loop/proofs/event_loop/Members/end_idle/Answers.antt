@@ -7,7 +7,7 @@ use Rattle.craq_event_loop.proofs.event_loop.Members.end_idle.Goals as goal
 pub returns-then-close_if_idle-clause-kept : goal.returns-then-close_if_idle-clause-kept
 returns-then-close_if_idle-clause-kept g c k = record {
   listed = c.wake.ensures.listed (
-      listed_looked c.args.self.now.connections c.close_if_idle.new.connections c.args.self.now.busy c.args.self.now.later c.args.key c.args.now c.args.self.now.idle
+      listed_looked c.args.self.now.connections c.close_if_idle.new.connections c.args.self.now.busy c.args.self.now.behind c.args.key c.args.now c.args.self.now.idle
       c.close_if_idle.result k.listed c.close_if_idle.ensures.ends c.close_if_idle.ensures.vacant c.close_if_idle.ensures.others);
   behind =
       behind_woken c.args.self.now.connections c.close_if_idle.new.connections c.wake.new.self.connections c.args.key k.behind c.close_if_idle.ensures.others
@@ -26,7 +26,7 @@ returns-then-close_if_idle-clause-others g c other differs = c.wake.ensures.othe
 pub returns-else-close_if_idle-clause-kept : goal.returns-else-close_if_idle-clause-kept
 returns-else-close_if_idle-clause-kept g c k = record {
   listed =
-      listed_looked c.args.self.now.connections c.close_if_idle.new.connections c.args.self.now.busy c.args.self.now.later c.args.key c.args.now c.args.self.now.idle
+      listed_looked c.args.self.now.connections c.close_if_idle.new.connections c.args.self.now.busy c.args.self.now.behind c.args.key c.args.now c.args.self.now.idle
       c.close_if_idle.result k.listed c.close_if_idle.ensures.ends c.close_if_idle.ensures.vacant c.close_if_idle.ensures.others;
   behind =
       behind_where_none_left c.args.self.now.connections c.close_if_idle.new.connections c.args.key c.args.now c.args.self.now.idle c.close_if_idle.result

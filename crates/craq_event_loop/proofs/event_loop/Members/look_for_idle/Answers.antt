@@ -5,7 +5,7 @@ use Rattle.craq_event_loop.proofs.Coming.{all_looked, looked_on, none_looked}
 use Rattle.craq_event_loop.proofs.event_loop.Members.look_for_idle.Goals as goal
 
 pub loop-key-init : goal.loop-key-init
-loop-key-init g c = (λ k. record { listed = k.listed; behind = k.behind }, none_looked c.args.now c.args.self.now.idle c.args.self.now.connections, refl)
+loop-key-init g c = (λ k. record { listed = k.listed; behind = k.behind }, none_looked c.args.now c.args.self.now.idle c.args.self.now.connections, refl, refl)
 
 pub loop-key-preserved : goal.loop-key-preserved
 loop-key-preserved g c = (
@@ -16,6 +16,7 @@ loop-key-preserved g c = (
       c.loop-key.invariant.2 c.end_idle.ensures.ends)
       c.end_idle.ensures.others,
   c.end_idle.ensures.idle ∙ c.loop-key.invariant.2,
+  c.end_idle.ensures.behind ∙ c.loop-key.invariant.3,
 )
 
 pub returns-clause-kept : goal.returns-clause-kept
@@ -25,3 +26,6 @@ pub returns-clause-ends : goal.returns-clause-ends
 returns-clause-ends g c differs =
     let past : length c.args.self.now.connections.slots ≤ c.loop-key.key = omega (arith, c.capacity-key-end.ensures.slots, c.loop-key-test.false) in
     all_looked c.args.now c.args.self.now.idle c.args.self.now.connections c.loop-key.self.connections c.loop-key.key c.loop-key.invariant.1 past
+
+pub returns-clause-behind : goal.returns-clause-behind
+returns-clause-behind g c = c.loop-key.invariant.3

@@ -8,3 +8,4 @@ invariant-loop-key g l =
     (NoneForgotten l.fn.self → NoneForgotten l.self)
     × LookedBefore l.now l.fn.self.idle l.fn.self.connections l.self.connections l.key
     × (l.self.idle ≡ l.fn.self.idle)
+    × (l.self.behind ≡ l.fn.self.behind)

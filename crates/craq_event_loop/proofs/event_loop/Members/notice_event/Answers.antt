@@ -7,7 +7,7 @@ use Rattle.craq_event_loop.proofs.event_loop.Members.notice_event.Goals as goal
 pub returns-clause-kept : goal.returns-clause-kept
 returns-clause-kept g c k = record {
   listed = c.wake.ensures.listed (
-      listed_noticed c.args.self.now.connections c.notice_at.new.connections c.args.self.now.busy c.args.self.now.later c.token-key.result.0 c.args.event.now
+      listed_noticed c.args.self.now.connections c.notice_at.new.connections c.args.self.now.busy c.args.self.now.behind c.token-key.result.0 c.args.event.now
       k.listed c.notice_at.ensures.reported c.notice_at.ensures.vacant c.notice_at.ensures.others);
   behind =
       behind_woken c.args.self.now.connections c.notice_at.new.connections c.wake.new.self.connections c.token-key.result.0 k.behind c.notice_at.ensures.others

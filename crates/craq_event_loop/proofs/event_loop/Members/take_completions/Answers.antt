@@ -1,5 +1,4 @@
-use Rattle.std.proofs.Common.{List, Result, subst}
-use Rattle.craq_names.specs.declared.refusal.Refusal.{Refusal}
+use Rattle.std.proofs.Common.{List, subst}
 use Rattle.craq_completions.specs.declared.queue_state.Completion.{Completion}
 use Rattle.craq_event_loop.specs.Belonging.{DeliversAll}
 use Rattle.craq_event_loop.proofs.event_loop.Members.take_completions.Goals as goal
@@ -8,7 +7,7 @@ pub returns-clause-delivered : goal.returns-clause-delivered
 returns-clause-delivered g c = (
   c.take_completions.new.into.items,
   c.take_completions.ensures,
-  subst (λ (x : List (Completion (Result g.row.P.Denot Refusal))). DeliversAll (g.H.AsyncBackend.finishes c.args.backend.now) x c.args.self.now.connections c.deliver_all.new.self.connections)
+  subst (λ (x : List (Completion g.row.P.Denot)). DeliversAll (g.H.AsyncBackend.finishes c.args.backend.now) x c.args.self.now.connections c.deliver_all.new.self.connections)
       c.reverse.ensures.items c.deliver_all.ensures.delivered,
 )
 

@@ -1,0 +1,39 @@
+-- The states that a connection reaches in an event loop.
+use Rattle.std.specs.Prelude.{◌≡◌, ℕ, List, [], ◌++◌, Some}
+use Rattle.slab.specs.Slab.{Slab, get}
+use Rattle.craq_completions.specs.declared.token.Token.{Token}
+use Rattle.craq_session.specs.Asking.{Calling, Finishing}
+use Rattle.craq_session.specs.ConnectionStates.{Holds}
+use Rattle.craq_session.specs.Turns.{Refusing}
+use Rattle.craq_session.specs.declared.connection_state.ConnectionState.{ConnectionState}
+use Rattle.craq_session.specs.declared.connection_state.Phase.TheVariants as phases
+use Rattle.craq_event_loop.specs.declared.connection.Connection.{Connection}
+use Rattle.craq_event_loop.specs.Advancing.{TakesSteps, under_key}
+use Rattle.craq_event_loop.specs.Belonging.{GetsCompletion, SendsBytes, ReceivesBytes}
+
+-- the first state is that of a new connection, and it reached this one: the bytes `read` came and the bytes `written` went, it took steps
+-- and got the outcomes of its calls by completions, and nothing else happened to it
+pub data Reaches {T R : Type 0} (tells : List ℕ → Type 0) (refuses : Refusing) (submits : Token → Calling T) (finishes : Finishing T R) (first : ConnectionState T) : List ℕ → List ℕ → ConnectionState T → Type 0 where
+  begins : Holds first.phase first.codec [] [] [] → first.phase ≡ phases.Idle → Reaches tells refuses submits finishes first [] [] first
+  receives : (read written came : List ℕ) (old new : ConnectionState T) → Reaches tells refuses submits finishes first read written old → ReceivesBytes came old new
+      → Reaches tells refuses submits finishes first (read ++ came) written new
+  sends : (read written went : List ℕ) (old new : ConnectionState T) → Reaches tells refuses submits finishes first read written old → SendsBytes went old new
+      → Reaches tells refuses submits finishes first read (written ++ went) new
+  steps : (read written : List ℕ) (old new : ConnectionState T) (key before count after : ℕ) → Reaches tells refuses submits finishes first read written old
+      → TakesSteps tells refuses (under_key submits key) old before count new after → Reaches tells refuses submits finishes first read written new
+  completes : (read written : List ℕ) (old new : ConnectionState T) (reply : R) → Reaches tells refuses submits finishes first read written old
+      → GetsCompletion finishes reply old new → Reaches tells refuses submits finishes first read written new
+
+-- a new connection reaches the state
+abbrev pub IsReachable : {T R : Type 0} → (List ℕ → Type 0) → Refusing → (Token → Calling T) → Finishing T R → ConnectionState T → Type 0
+IsReachable {T} tells refuses submits finishes state =
+    (first : ConnectionState T) × (read : List ℕ) × (written : List ℕ) × Reaches tells refuses submits finishes first read written state
+
+-- the states of these connections are reachable
+abbrev pub AreReachable : {S T R : Type 0} → (List ℕ → Type 0) → Refusing → (Token → Calling T) → Finishing T R → Slab (Connection S T) → Type 0
+AreReachable {S} {T} tells refuses submits finishes connections =
+    (key : ℕ) (c : Connection S T) → get connections key ≡ Some c → IsReachable tells refuses submits finishes c.state
+
+-- if the states of the connections were reachable before, they are afterwards
+abbrev pub StayReachable : {S T R : Type 0} → (List ℕ → Type 0) → Refusing → (Token → Calling T) → Finishing T R → Slab (Connection S T) → Slab (Connection S T) → Type 0
+StayReachable tells refuses submits finishes old new = AreReachable tells refuses submits finishes old → AreReachable tells refuses submits finishes new

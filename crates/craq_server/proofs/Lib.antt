@@ -1,4 +1,5 @@
 pub mod Floats
+pub mod Reached
 pub mod Sessions
 pub mod Turns
 pub mod Witnessing

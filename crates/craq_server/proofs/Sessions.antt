@@ -1,37 +1,98 @@
 -- The session of a connection after a call was submitted or finished.
-use Rattle.std.proofs.Common.{◌≡◌, [], Option, None, Some, Result, Ok, Err, IfOk, refl}
+use Rattle.std.proofs.Common.{◌≡◌, ◌⊎◌, ◌∙◌, [], Option, None, Some, Result, Ok, Err, IfErr, IfOk, IsSome, inl, inr, refl, subst, sym}
 use Rattle.std.proofs.lemmas.List.{append-nil}
+use Rattle.craq_commands.specs.declared.read_mode.ReadMode.TheVariants as modes
 use Rattle.craq_names.specs.declared.name.NodeName.{NodeName}
 use Rattle.craq_names.specs.declared.refusal.Refusal.{Refusal}
+use Rattle.craq_names.specs.declared.refusal.Refusal.TheVariants as refusals
+use Rattle.craq_names.specs.declared.refusal.Refusal.TheVariants.{Closed}
+use Rattle.craq_model.specs.declared.ask.Ask.{Ask}
+use Rattle.craq_model.specs.declared.ask.Ask.TheVariants as asks
+use Rattle.craq_pending_calls.specs.Refused.{CanRefuse}
 use Rattle.craq_seat.specs.Calls.{Called}
-use Rattle.craq_session.specs.declared.call_request.CallRequest.{CallRequest}
-use Rattle.craq_session.specs.Asking.{at_once}
 use Rattle.craq_store_history.specs.declared.entry.CallId.{CallId}
 use Rattle.craq_store_history.specs.Chains.{IsHistory}
 use Rattle.craq_store_parts.specs.Recorded.{HasAccepted, HasReplied}
-use Rattle.craq_server.specs.Sessions.{Connected, Finishes, MakesCall, SeesMore, Submits}
-
--- nothing happened
-pub sees_same : (s : Connected) → SeesMore s s
-sees_same s = (refl, ([], append-nil s.seen))
+use Rattle.craq_workers.specs.Untaken.{IsGivenUp, LeavesOpen}
+use Rattle.craq_server.specs.Sessions.{Connected, Finishes, GivesUp, SeesMore}
 
 -- no call was under way
 pub sees_as_much : (old new : Connected) → new.client ≡ old.client → new.seen ≡ old.seen → SeesMore old new
 sees_as_much old new client seen = rw seen (client, ([], append-nil old.seen))
 
--- it was refused before it was made
-pub submits_nothing : (s : Connected) (q : CallRequest) (e : Refusal) → Submits s q (Some (Err e)) s
-submits_nothing s q e = sees_same s
-
--- a call was made, and submitted
-pub submits_made : (old new : Connected) (q : CallRequest) (r : Result (Option Called) Refusal) → MakesCall old q.node q.ask new → SeesMore old new → Submits old q (at_once r) new
-submits_made old new q (Ok None) made more = (made, more)
-submits_made old new q (Ok (Some reply)) made more = (made, more)
-submits_made old new q (Err e) made more = more
-
--- a call was finished
+-- a call was finished by an answer
 pub finishes_made : (old new : Connected) (node : NodeName) (reply : Called) (call : CallId) (r : Result Called Refusal) → old.call ≡ Some call
     → IfOk r (λ c. c ≡ reply) → IfOk r (λ c. HasAccepted new.seen node call c.call.ticket) → IfOk r (λ c. HasReplied new.seen node c) → IfOk r (λ c. IsHistory new.seen)
-    → SeesMore old new → Finishes old node reply r new
-finishes_made old new node reply call (Ok c) is receipt accepted replied history more = (receipt, (call, is, accepted, replied), history, more)
-finishes_made old new node reply call (Err e) is receipt accepted replied history more = more
+    → IfErr r (λ e. e ≡ Closed) → SeesMore old new → Finishes old node (Ok reply) r new
+finishes_made old new node reply call (Ok c) is receipt accepted replied history closed more = (receipt, (call, is, accepted, replied), history, more)
+finishes_made old new node reply call (Err e) is receipt accepted replied history closed more = (closed, more)
+
+-- a call was given up
+pub gives_up_made : (old new : Connected) (came reported : Refusal) (call : CallId) → old.call ≡ Some call → (reported ≡ came) ⊎ (reported ≡ Closed)
+    → (LeavesOpen came → reported ≡ came) → LeavesOpen reported ⊎ IsGivenUp new.seen call reported → SeesMore old new → GivesUp old came reported new
+gives_up_made old new came reported call is either kept (inl leaves) more = record { either = either; kept = λ _. kept; untaken = inl leaves; sees = more }
+gives_up_made old new came reported call is either kept (inr up) more = record { either = either; kept = λ _. kept; untaken = inr (call, is, up); sees = more }
+
+-- no call was under way, and none is given up
+pub gives_none_up : (old new : Connected) (came : Refusal) → old.call ≡ None → new.client ≡ old.client → new.seen ≡ old.seen → GivesUp old came Closed new
+gives_none_up old new came none client seen = record {
+  either = inr refl;
+  kept = λ some. (let no : IsSome {T = CallId} None = subst (λ (call : Option CallId). IsSome call) none some in cc);
+  untaken = inl tt;
+  sees = sees_as_much old new client seen;
+}
+
+-- the refusal that a request can have, of one that it may not have
+possible : (ask : Ask) (e reported : Refusal) → (CanRefuse ask e → reported ≡ e) → (¬ (CanRefuse ask e) → reported ≡ Closed) → (reported ≡ e) ⊎ (reported ≡ Closed)
+possible ask refusals.TwoChains reported same closed = inl (same tt)
+possible (asks.Update update) (refusals.NotHead head) reported same closed = inl (same tt)
+possible (asks.Read mode object) (refusals.NotHead head) reported same closed = inr (closed (λ no. no))
+possible ask refusals.NotReady reported same closed = inl (same tt)
+possible ask refusals.Stopped reported same closed = inl (same tt)
+possible (asks.Update update) refusals.PendingFull reported same closed = inl (same tt)
+possible (asks.Read modes.Strong object) refusals.PendingFull reported same closed = inl (same tt)
+possible (asks.Read modes.Eventual object) refusals.PendingFull reported same closed = inr (closed (λ no. no))
+possible (asks.Read (modes.Bounded k) object) refusals.PendingFull reported same closed = inr (closed (λ no. no))
+possible ask refusals.Exhausted reported same closed = inl (same tt)
+possible ask refusals.Memory reported same closed = inl (same tt)
+possible ask refusals.WrongNode reported same closed = inl (same tt)
+possible ask refusals.Closed reported same closed = inl (same tt)
+possible ask e reported same closed = inr (closed (λ no. no))
+
+-- each request can have a refusal that leaves open whether a step was taken
+can_open : (ask : Ask) (e : Refusal) → LeavesOpen e → CanRefuse ask e
+can_open ask refusals.Stopped leaves = tt
+can_open ask refusals.Memory leaves = tt
+can_open ask refusals.Closed leaves = tt
+can_open ask e leaves = absurd leaves
+
+module _ (old new : Connected) (ask : Ask) (came e : Refusal) (up : GivesUp old came e new) where
+  as_itself : (reported : Refusal) → reported ≡ e → GivesUp old came reported new
+  as_itself reported is = subst (λ (x : Refusal). GivesUp old came x new) (sym is) up
+
+  as_closed : (reported : Refusal) → (CanRefuse ask e → reported ≡ e) → reported ≡ Closed → GivesUp old came reported new
+  as_closed reported same closed = record {
+    either = inr closed;
+    kept = λ some leaves.
+        let is : e ≡ came = up.kept some leaves in
+        let can : CanRefuse ask e = subst (λ (x : Refusal). CanRefuse ask x) (sym is) (can_open ask came leaves) in
+        same can ∙ is;
+    untaken = inl (subst (λ (x : Refusal). LeavesOpen x) (sym closed) tt);
+    sees = up.sees;
+  }
+
+  as_either : (reported : Refusal) → (CanRefuse ask e → reported ≡ e) → (reported ≡ e) ⊎ (reported ≡ Closed) → GivesUp old came reported new
+  as_either reported same (inl is) = as_itself reported is
+  as_either reported same (inr is) = as_closed reported same is
+
+  -- so it is where a refusal that this request cannot have becomes Closed
+  gives_up_possibly : (reported : Refusal) → (CanRefuse ask e → reported ≡ e) → (¬ (CanRefuse ask e) → reported ≡ Closed) → GivesUp old came reported new
+  gives_up_possibly reported same closed = as_either reported same (possible ask e reported same closed)
+
+-- the call of a request is finished, and a refusal that the request cannot have becomes Closed
+pub finishes_possibly : (old new : Connected) (node : NodeName) (ask : Ask) (reply : Result Called Refusal) (e reported : Refusal) → Finishes old node reply (Err e) new
+    → (CanRefuse ask e → reported ≡ e) → (¬ (CanRefuse ask e) → reported ≡ Closed) → Finishes old node reply (Err reported) new
+finishes_possibly old new node ask (Ok c) e reported f same closed =
+    let can : CanRefuse ask e = subst (λ (x : Refusal). CanRefuse ask x) (sym f.0) tt in
+    (same can ∙ f.0, f.1)
+finishes_possibly old new node ask (Err came) e reported f same closed = gives_up_possibly old new ask came e f reported same closed

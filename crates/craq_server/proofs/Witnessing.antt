@@ -1,28 +1,28 @@
 -- The replies of a connection, in the store's history.
-use Rattle.std.proofs.Common.{◌≡◌, ◌∙◌, List, [], ◌∷◌, ◌++◌, None, Some, Result, Ok, Err, ◌⊎◌, ℕ, inl, inr, refl, sym, ap, subst}
+use Rattle.std.proofs.Common.{◌≡◌, ◌∙◌, List, [], ◌∷◌, ◌++◌, Some, Result, Ok, Err, ◌⊎◌, ℕ, inl, inr, refl, sym, ap, subst}
 use Rattle.std.proofs.lemmas.List.{append-nil, append_assoc, append_cancel_left}
 use mathlib.Core.List.{IsPrefix}
+use Rattle.craq_names.specs.declared.name.NodeName.{NodeName}
 use Rattle.craq_names.specs.declared.refusal.Refusal.{Refusal}
+use Rattle.craq_model.specs.declared.ask.Ask.{Ask}
+use Rattle.craq_model.specs.declared.ask.Ask.TheVariants as asks
 use Rattle.craq_frames.specs.declared.ask.ClientMessage.{ClientMessage}
+use Rattle.craq_frames.specs.declared.ask.ClientMessage.TheVariants as messages
 use Rattle.craq_frames.specs.declared.answer.ClientReply.{ClientReply}
 use Rattle.craq_frames.specs.declared.answer.ClientReply.TheVariants as replies
 use Rattle.craq_seat.specs.Calls.{Called}
 use Rattle.craq_session.specs.declared.call_request.CallRequest.{CallRequest}
-use Rattle.craq_completions.specs.declared.token.Token.{Token}
-use Rattle.craq_session.specs.declared.connection_state.ConnectionState.{ConnectionState}
-use Rattle.craq_session.specs.declared.connection_state.Phase.{Phase}
-use Rattle.craq_session.specs.declared.connection_state.Phase.TheVariants.{Waits}
-use Rattle.craq_session.specs.Asking.{HasCalled, IsFinished, IsOutcome, IsSubmitted, called_by, directly, by_completion}
-use Rattle.craq_session.specs.ConnectionStates.{AnswersCall}
-use Rattle.craq_event_loop.specs.Advancing.{AsksBackend, ChangesSession}
-use Rattle.craq_event_loop.specs.Belonging.{CameBack, CameByCompletion}
-use Rattle.craq_session.specs.Halves.{EndsTurn, HasAsked, asked_by, call, nothing}
-use Rattle.craq_session.specs.Turns.{Refusing, IsAnswered, IsCalled, name_of}
+use Rattle.craq_session.specs.Asking.{HasCalled, IsSubmitted, directly, by_completion}
+use Rattle.craq_session.specs.Halves.{CanComeBack, EndsTurn, HasAsked, RefusesCall, asked_by, call, nothing, tells_none}
+use Rattle.craq_session.specs.Turns.{Refusing, IsAnswered, IsCalled, IsRefused, MayReplyRefused, message_of, name_of}
 use Rattle.craq_store_history.specs.declared.entry.CallId.{CallId}
 use Rattle.craq_store_history.specs.declared.entry.Entry.{Entry}
 use Rattle.craq_store_parts.specs.Recorded.{HasAccepted}
 use Rattle.craq_store_parts.specs.Witnessed.{IsWitnessed}
-use Rattle.craq_server.specs.Sessions.{Connected, Finishes, FinishesCall, HasWitnessedTurn, IsWitnessedReply, IsWitnessedTurn, MakesCall, SeesMore, Submits}
+use Rattle.craq_workers.specs.Untaken.{IsGivenUp, IsRefusedCall, LeavesOpen}
+use Rattle.craq_workers.proofs.Refusing.{refused_call}
+use Rattle.craq_server.specs.Sessions.{Connected, Finishes, FinishesCall, IsRefusedMessage, IsRefusedRequest, IsWitnessedReply, IsWitnessedTurn, MakesCall, SeesMore, Submits}
+use Rattle.craq_server.proofs.Sessions.{sees_as_much}
 
 prefix_on : (a b c : List Entry) → IsPrefix a b → IsPrefix b c → IsPrefix a c
 prefix_on a b c first second =
@@ -32,13 +32,15 @@ sees_on : (a b c : Connected) → SeesMore a b → SeesMore b c → SeesMore a c
 sees_on a b c first second = (second.0 ∙ first.0, prefix_on a.seen b.seen c.seen first.1 second.1)
 
 module _ (q : CallRequest) (old mid new : Connected) where
-  finished_sees : (reply : Called) (outcome : Result Called Refusal) → Finishes mid q.node reply outcome new → SeesMore mid new
-  finished_sees reply (Ok c) f = f.3
-  finished_sees reply (Err e) f = f
+  finished_sees : (reply outcome : Result Called Refusal) → Finishes mid q.node reply outcome new → SeesMore mid new
+  finished_sees (Ok reply) (Ok c) f = f.3
+  finished_sees (Ok reply) (Err e) f = f.1
+  finished_sees (Err came) (Ok c) f = absurd f
+  finished_sees (Err came) (Err e) f = f.sees
 
-  -- a call that was made and finished
-  made_finished : (reply c : Called) → MakesCall old q.node q.ask mid → Finishes mid q.node reply (Ok c) new → IsWitnessed old.client old.seen q.node q.ask c.answer c new.seen
-  made_finished reply c m f =
+  -- a call that was made and answered
+  made_answered : (reply c : Called) → MakesCall old q.node q.ask mid → Finishes mid q.node (Ok reply) (Ok c) new → IsWitnessed old.client old.seen q.node q.ask c.answer c new.seen
+  made_answered reply c m f =
       let made : mid.call ≡ Some m.0 = m.1 in
       let under_way : mid.call ≡ Some f.1.0 = f.1.1 in
       let same : f.1.0 ≡ m.0 = cc in
@@ -54,32 +56,78 @@ module _ (q : CallRequest) (old mid new : Connected) where
         history = f.2;
       }
 
+  made_finished : (reply : Result Called Refusal) (c : Called) → MakesCall old q.node q.ask mid → Finishes mid q.node reply (Ok c) new → IsWitnessed old.client old.seen q.node q.ask c.answer c new.seen
+  made_finished (Ok reply) c m f = made_answered reply c m f
+  made_finished (Err came) c m f = absurd f
+
+  -- a call that was made and given up
+  given_up : (e : Refusal) → MakesCall old q.node q.ask mid → SeesMore mid new → LeavesOpen e ⊎ ((call : CallId) × (mid.call ≡ Some call) × IsGivenUp new.seen call e)
+      → LeavesOpen e ⊎ IsRefusedCall old.client old.seen q.node q.ask e new.seen
+  given_up e m sees (inl leaves) = inl leaves
+  given_up e m sees (inr up) =
+      let made : mid.call ≡ Some m.0 = m.1 in
+      let under_way : mid.call ≡ Some up.0 = up.1 in
+      let same : up.0 ≡ m.0 = cc in
+      inr (refused_call old.client old.seen mid.seen new.seen q.node q.ask m.0 m.2 m.3 sees.1 e (subst (λ (x : CallId). IsGivenUp new.seen x e) same up.2))
+
+  made_refused : (reply : Result Called Refusal) (e : Refusal) → MakesCall old q.node q.ask mid → Finishes mid q.node reply (Err e) new
+      → LeavesOpen e ⊎ IsRefusedCall old.client old.seen q.node q.ask e new.seen
+  made_refused (Ok reply) e m f = inl (subst (λ (x : Refusal). LeavesOpen x) (sym f.0) tt)
+  made_refused (Err came) e m f = given_up e m f.sees f.untaken
+
 module _ (q : CallRequest) (old new : Connected) where
   -- a call sees more, whatever its outcome
+  unmade_sees : (mid : Connected) → mid.client ≡ old.client → mid.seen ≡ old.seen → new ≡ mid → SeesMore old new
+  unmade_sees mid client seen same = subst (λ (x : Connected). SeesMore old x) (sym same) (sees_as_much old mid client seen)
+
   submitted_sees : (outcome : Result Called Refusal) → IsSubmitted Submits FinishesCall q old (Some outcome) new → SeesMore old new
   submitted_sees outcome (Ok reply, mid, made, finished) = sees_on old mid new made.1 (finished_sees q old mid new reply outcome finished)
-  submitted_sees outcome (Err e, mid, made, finished) = subst (λ (x : Connected). SeesMore old x) (sym finished.1) made
-
-  came_sees : (mid : Connected) (reply : Result Called Refusal) (outcome : Result Called Refusal) → SeesMore old mid → IsFinished FinishesCall q reply mid outcome new → SeesMore old new
-  came_sees mid (Ok reply) outcome more finished = sees_on old mid new more (finished_sees q old mid new reply outcome finished.0)
-  came_sees mid (Err came) outcome more finished = subst (λ (x : Connected). SeesMore old x) (sym finished.3) more
+  submitted_sees outcome (Err e, mid, unmade, finished) = unmade_sees mid unmade.0 unmade.1 finished.1
 
   called_sees : (outcome : Result Called Refusal) → HasCalled Submits FinishesCall q old outcome new → SeesMore old new
   called_sees outcome (directly submitted) = submitted_sees outcome submitted
-  called_sees outcome (by_completion mid reply submitted finished) = came_sees mid reply outcome submitted.1 finished
+  called_sees outcome (by_completion mid reply submitted finished) = sees_on old mid new submitted.1 (finished_sees q old mid new reply outcome finished.0)
 
   -- a call with a receipt is witnessed
   submitted_witnessed : (c : Called) → IsSubmitted Submits FinishesCall q old (Some (Ok c)) new → IsWitnessed old.client old.seen q.node q.ask c.answer c new.seen
   submitted_witnessed c (Ok reply, mid, made, finished) = made_finished q old mid new reply c made.0 finished
   submitted_witnessed c (Err e, mid, made, finished) = (let no : Ok c ≡ Err e = finished.0 in cc)
 
-  came_witnessed : (mid : Connected) (reply : Result Called Refusal) (c : Called) → MakesCall old q.node q.ask mid → IsFinished FinishesCall q reply mid (Ok c) new → IsWitnessed old.client old.seen q.node q.ask c.answer c new.seen
-  came_witnessed mid (Ok reply) c made finished = made_finished q old mid new reply c made finished.0
-  came_witnessed mid (Err came) c made finished = (let no : Ok c ≡ Err finished.0 = finished.1 in cc)
-
   called_witnessed : (c : Called) → HasCalled Submits FinishesCall q old (Ok c) new → IsWitnessed old.client old.seen q.node q.ask c.answer c new.seen
   called_witnessed c (directly submitted) = submitted_witnessed c submitted
-  called_witnessed c (by_completion mid reply submitted finished) = came_witnessed mid reply c submitted.0 finished
+  called_witnessed c (by_completion mid reply submitted finished) = made_finished q old mid new reply c submitted.0 finished.0
+
+  -- a call that is refused
+  refused_so : (e : Refusal) → LeavesOpen e ⊎ IsRefusedCall old.client old.seen q.node q.ask e new.seen → IsRefusedRequest old q.node q.ask e new
+  refused_so e (inl leaves) = inl leaves
+  refused_so e (inr up) = inr (inr (inr up))
+
+  submitted_refused : (e : Refusal) → IsSubmitted Submits FinishesCall q old (Some (Err e)) new → IsRefusedRequest old q.node q.ask e new
+  submitted_refused e (Ok reply, mid, made, finished) = refused_so e (made_refused q old mid new reply e made.0 finished)
+  submitted_refused e (Err came, mid, unmade, finished) = inr (inr (inl (ap (λ (s : Connected). s.seen) finished.1 ∙ unmade.1)))
+
+  called_refused : (e : Refusal) → HasCalled Submits FinishesCall q old (Err e) new → IsRefusedRequest old q.node q.ask e new
+  called_refused e (directly submitted) = submitted_refused e submitted
+  called_refused e (by_completion mid reply submitted finished) = refused_so e (made_refused q old mid new reply e submitted.0 finished.0)
+
+  -- a refusal that replaces an answer
+  comes_back : (e : Refusal) → CanComeBack e → IsRefusedRequest old q.node q.ask e new
+  comes_back e (inl is) = inl (subst (λ (x : Refusal). LeavesOpen x) (sym is) tt)
+  comes_back e (inr is) = inl (subst (λ (x : Refusal). LeavesOpen x) (sym is) tt)
+
+  -- the refusal that replaces an outcome
+  outcome_refused : (outcome : Result Called Refusal) (e : Refusal) → HasCalled Submits FinishesCall q old outcome new → RefusesCall q outcome e → IsRefusedRequest old q.node q.ask e new
+  outcome_refused (Err came) e has is = subst (λ (x : Refusal). IsRefusedRequest old q.node q.ask x new) (sym is) (called_refused came has)
+  outcome_refused (Ok c) e has is = comes_back e is.0
+
+  -- that of a message, by its request
+  message_refused : (node pass : ℕ) (ask : Ask) (e : Refusal) → IsRefusedRequest old (name_of node ask) ask e new → IsRefusedMessage old (message_of node pass ask) e new
+  message_refused node pass (asks.Update update) e h = h
+  message_refused node pass (asks.Read mode object) e h = h
+
+  may_refuse : (r : Refusal → Type 0) (node pass : ℕ) (ask : Ask) (e : Refusal) → MayReplyRefused (λ node pass ask e. r e) (message_of node pass ask) e → r e
+  may_refuse r node pass (asks.Update update) e may = may
+  may_refuse r node pass (asks.Read mode object) e may = may
 
   module _ (outcome : Result Called Refusal) (receipts after : List Called) (named : q.node ≡ name_of q.node.node q.ask) (has : HasCalled Submits FinishesCall q old outcome new) where
     own_witnessed : (reply : ClientReply) → IsCalled receipts (asked_by q) reply after → ((c : Called) → after ≡ receipts ++ c ∷ [] → outcome ≡ Ok c) → IsWitnessedReply old (asked_by q) reply new
@@ -94,12 +142,19 @@ module _ (q : CallRequest) (old new : Connected) where
       witnessed = called_witnessed called.0 (subst (λ (x : Result Called Refusal). HasCalled Submits FinishesCall q old x new) (own called.0 called.1.1) has);
     }
 
+    as_message : (e : Refusal) → IsRefusedRequest old q.node q.ask e new → IsRefusedMessage old (asked_by q) e new
+    as_message e h = message_refused q.node.node q.pass q.ask e (subst (λ (x : NodeName). IsRefusedRequest old x q.ask e new) named h)
+
+    refusal_witnessed : (e : Refusal) → IsRefused tells_none (λ node pass ask e. RefusesCall q outcome e) receipts (asked_by q) e after → IsRefusedMessage old (asked_by q) e new
+    refusal_witnessed e (inl may) = as_message e (outcome_refused outcome e has (may_refuse (λ (e : Refusal). RefusesCall q outcome e) q.node.node q.pass q.ask e may.0))
+    refusal_witnessed e (inr hidden) = as_message e (inr (inl hidden.0))
+
     -- the reply to a call whose turn ends so
     pub ended_witnessed : (reply : ClientReply) → EndsTurn q outcome receipts reply after → IsWitnessedTurn old (asked_by q) reply new
     ended_witnessed (replies.Update pass reply) ends = (called_sees outcome has, own_witnessed (replies.Update pass reply) ends.answered ends.own)
     ended_witnessed (replies.Read pass version value) ends = (called_sees outcome has, own_witnessed (replies.Read pass version value) ends.answered ends.own)
     ended_witnessed (replies.Status text) ends = called_sees outcome has
-    ended_witnessed (replies.Refused refusal) ends = called_sees outcome has
+    ended_witnessed (replies.Refused refusal) ends = (called_sees outcome has, refusal_witnessed refusal ends.answered)
 
 no_receipt : (receipts after : List Called) (c : Called) → after ≡ receipts → after ≡ receipts ++ c ∷ [] → ⊥
 no_receipt receipts after c same more = (let empty : [] ≡ c ∷ [] = append_cancel_left receipts [] (c ∷ []) (append-nil receipts ∙ (sym same ∙ more)) in cc)
@@ -108,44 +163,19 @@ module _ (tells : List ℕ → Type 0) (refuses : Refusing) (message : ClientMes
   same_sees : new ≡ old → SeesMore old new
   same_sees same = subst (λ (x : Connected). SeesMore old x) (sym same) (refl, ([], append-nil old.seen))
 
-  nothing_witnessed : (reply : ClientReply) → after ≡ receipts → new ≡ old → IsAnswered tells refuses receipts message reply after → IsWitnessedTurn old message reply new
+  nothing_refused : (m : ClientMessage) (e : Refusal) → new ≡ old → IsRefusedMessage old m e new
+  nothing_refused (messages.Update node pass update) e same = inr (inr (inl (ap (λ (s : Connected). s.seen) same)))
+  nothing_refused (messages.Read node pass mode object) e same = inr (inr (inl (ap (λ (s : Connected). s.seen) same)))
+  nothing_refused messages.Status e same = tt
+
+  pub nothing_witnessed : (reply : ClientReply) → after ≡ receipts → new ≡ old → IsAnswered tells refuses receipts message reply after → IsWitnessedTurn old message reply new
   nothing_witnessed (replies.Update pass reply) none same answered = absurd (no_receipt receipts after answered.0 none answered.1.1)
   nothing_witnessed (replies.Read pass version value) none same answered = absurd (no_receipt receipts after answered.0 none answered.1.1)
   nothing_witnessed (replies.Status text) none same answered = same_sees same
-  nothing_witnessed (replies.Refused refusal) none same answered = same_sees same
+  nothing_witnessed (replies.Refused refusal) none same answered = (same_sees same, nothing_refused message refusal same)
 
   -- a turn of a request handler
   pub turn_witnessed : (reply : ClientReply) → HasAsked Submits FinishesCall message old receipts reply after new → IsAnswered tells refuses receipts message reply after → IsWitnessedTurn old message reply new
   turn_witnessed reply (nothing none same) answered = nothing_witnessed reply none same answered
   turn_witnessed reply (call q outcome asks named has ends) answered =
       subst (λ (x : ClientMessage). IsWitnessedTurn old x reply new) (sym asks) (ended_witnessed q old new outcome receipts after named has reply ends)
-
--- a connection of an event loop
-module _ (q : CallRequest) (old new : ConnectionState Connected) (under_way : old.phase ≡ Waits q) (named : q.node ≡ name_of q.node.node q.ask) where
-  came_back : (before : Connected) (outcome : Result Called Refusal) → HasCalled Submits FinishesCall q before outcome new.session → CameBack outcome old new → HasWitnessedTurn before q old new
-  came_back before outcome has came =
-      let answers : AnswersCall (Waits q) outcome new.phase old.codec new.codec old.calls new.calls =
-      subst (λ (p : Phase). AnswersCall p outcome new.phase old.codec new.codec old.calls new.calls) under_way came in (
-        answers.0,
-        answers.1,
-        ended_witnessed q before new.session outcome old.calls.receipts.items new.calls.receipts.items named has answers.0 answers.2,
-      )
-
-  asked_back : (refuses : Refusing) (token : Token) → AsksBackend refuses (called_by (λ (t : Token). Submits) FinishesCall token) (Waits q) old new
-      → HasWitnessedTurn old.session q old new ⊎ (ChangesSession old new × SeesMore old.session new.session)
-  asked_back refuses token (inl (submitted, may, same)) = inr (same, submitted.1)
-  asked_back refuses token (inr (outcome, submitted, refusable, came)) = inl (came_back old.session outcome (directly submitted) came)
-
-  -- the outcome came at once, or the call is under way
-  pub asked_witnessed : (refuses : Refusing) (token : Token) → AsksBackend refuses (called_by (λ (t : Token). Submits) FinishesCall token) old.phase old new
-      → HasWitnessedTurn old.session q old new ⊎ (ChangesSession old new × SeesMore old.session new.session)
-  asked_witnessed refuses token asks =
-      asked_back refuses token (subst (λ (p : Phase). AsksBackend refuses (called_by (λ (t : Token). Submits) FinishesCall token) p old new) under_way asks)
-
-  -- the outcome came by a completion
-  pub completed_witnessed : (before : Connected) (reply : Result Called Refusal) → IsSubmitted Submits FinishesCall q before None old.session
-      → CameByCompletion FinishesCall reply old new → HasWitnessedTurn before q old new
-  completed_witnessed before reply submitted (outcome, is, came) =
-      let finished : IsFinished FinishesCall q reply old.session outcome new.session =
-      subst (λ (p : Phase). IsOutcome FinishesCall p reply old.session outcome new.session) under_way is in
-      came_back before outcome (by_completion old.session reply submitted finished) came

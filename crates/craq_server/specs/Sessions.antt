@@ -1,18 +1,23 @@
 -- The session of a connection of a served store, and the calls that it makes and finishes.
-use Rattle.std.specs.Prelude.{◌≡◌, ℕ, List, Option, Some, Result, Ok, Err}
+use Rattle.std.specs.Prelude.{◌≡◌, ◌≢◌, ◌⊎◌, ⊤, ℕ, List, [], ◌∷◌, Option, Some, IsSome, Result, Ok, Err, length}
 use mathlib.Core.List.{IsPrefix}
 use Rattle.craq_names.specs.declared.name.NodeName.{NodeName}
 use Rattle.craq_names.specs.declared.refusal.Refusal.{Refusal}
+use Rattle.craq_names.specs.declared.refusal.Refusal.TheVariants.{BadFrame, Closed}
 use Rattle.craq_model.specs.declared.ask.Ask.{Ask}
+use Rattle.craq_model.specs.declared.ask.Ask.TheVariants as asks
 use Rattle.craq_frames.specs.declared.ask.ClientMessage.{ClientMessage}
+use Rattle.craq_frames.specs.declared.ask.ClientMessage.TheVariants as messages
 use Rattle.craq_frames.specs.declared.answer.ClientReply.{ClientReply}
 use Rattle.craq_frames.specs.declared.answer.ClientReply.TheVariants as replies
+use Rattle.craq_front.specs.Talk.{History}
+use Rattle.craq_completions.specs.declared.token.Token.{Token}
 use Rattle.craq_seat.specs.Calls.{Called}
+use Rattle.craq_session.specs.Asking.{called_by}
 use Rattle.craq_session.specs.declared.call_request.CallRequest.{CallRequest}
 use Rattle.craq_session.specs.declared.connection_state.ConnectionState.{ConnectionState}
 use Rattle.craq_session.specs.declared.connection_state.Phase.TheVariants.{Waits}
-use Rattle.craq_session.specs.ConnectionStates.{HasOneMore}
-use Rattle.craq_session.specs.Halves.{asked_by}
+use Rattle.craq_session.specs.ConnectionStates.{Holds}
 use Rattle.craq_session.specs.Turns.{IsReplyOf, message_of, name_of}
 use Rattle.craq_store_history.specs.declared.entry.CallId.{CallId}
 use Rattle.craq_store_history.specs.declared.entry.Entry.{Entry}
@@ -20,6 +25,11 @@ use Rattle.craq_store_history.specs.Chains.{IsHistory}
 use Rattle.craq_store_parts.specs.Recorded.{HasAccepted, HasReplied}
 use Rattle.craq_store_parts.specs.Sent.{IsMade}
 use Rattle.craq_store_parts.specs.Witnessed.{IsWitnessed}
+use Rattle.craq_event_loop.specs.Reaching.{IsReachable}
+use Rattle.craq_workers.specs.Stores.{Stored}
+use Rattle.craq_workers.specs.Untaken.{IsGivenUp, IsRefusedCall, LeavesOpen}
+use Rattle.craq_server.specs.Refusing.{RefusesServed}
+use Rattle.craq_server.specs.Status.{TellsStatus}
 
 -- the view that contracts have of a connection's session: its client's number, the history that it has seen, and the call that is
 -- under way, if there is one
@@ -36,22 +46,34 @@ SeesMore old new = (new.client ≡ old.client) × IsPrefix old.seen new.seen
 abbrev pub MakesCall : Connected → NodeName → Ask → Connected → Type 0
 MakesCall old node ask new = (call : CallId) × (new.call ≡ Some call) × (call.client ≡ old.client) × IsMade old.seen call node ask new.seen
 
--- a call was submitted, unless it was refused at once
-abbrev pub Submits : Connected → CallRequest → Option (Result Called Refusal) → Connected → Type 0
-Submits old q (Some (Err e)) new = SeesMore old new
+-- a call was submitted; or it was refused before it was made, and the session has seen what it had
+abbrev pub Submits : Connected → CallRequest → Option (Result (Result Called Refusal) Refusal) → Connected → Type 0
+Submits old q (Some (Err e)) new = (new.client ≡ old.client) × (new.seen ≡ old.seen)
 Submits old q came new = MakesCall old q.node q.ask new × SeesMore old new
 
--- the session finished its call that was under way, at this node: in the history that it has seen since, the node accepted the call under
--- the receipt's ticket and gave the reply, of which this is the receipt; or there is no receipt
-abbrev pub Finishes : Connected → NodeName → Called → Result Called Refusal → Connected → Type 0
-Finishes old node reply (Ok c) new =
+-- the session gave up its call that was under way, which was refused so, and this refusal is reported: it, or Closed. It leaves open
+-- whether a step accepted the call; or none does, in the history that the session has seen since or in any that goes on from it, and the
+-- refusal is explained there
+pub record GivesUp (old : Connected) (came reported : Refusal) (new : Connected) : Type 0 where
+  pub either : (reported ≡ came) ⊎ (reported ≡ Closed)
+  pub kept : IsSome old.call → LeavesOpen came → reported ≡ came
+  pub untaken : LeavesOpen reported ⊎ ((call : CallId) × (old.call ≡ Some call) × IsGivenUp new.seen call reported)
+  pub sees : SeesMore old new
+
+-- the session finished its call that was under way, at this node, by its reply. An answer: in the history that the session has seen since,
+-- the node accepted the call under the receipt's ticket and gave the answer, of which this is the receipt; or it is another call's. A
+-- refusal: the session gave the call up
+abbrev pub Finishes : Connected → NodeName → Result Called Refusal → Result Called Refusal → Connected → Type 0
+Finishes old node (Ok reply) (Ok c) new =
     (c ≡ reply)
     × ((call : CallId) × (old.call ≡ Some call) × HasAccepted new.seen node call c.call.ticket × HasReplied new.seen node c)
     × IsHistory new.seen × SeesMore old new
-Finishes old node reply (Err e) new = SeesMore old new
+Finishes old node (Ok reply) (Err e) new = (e ≡ Closed) × SeesMore old new
+Finishes old node (Err came) (Ok c) new = ⊥
+Finishes old node (Err came) (Err e) new = GivesUp old came e new
 
 -- the call of a request was finished
-abbrev pub FinishesCall : Connected → CallRequest → Called → Result Called Refusal → Connected → Type 0
+abbrev pub FinishesCall : Connected → CallRequest → Result Called Refusal → Result Called Refusal → Connected → Type 0
 FinishesCall old q reply outcome new = Finishes old q.node reply outcome new
 
 -- the message asks this request of this node of the chain of its first object; the reply has the answer of a receipt; and the call is in
@@ -66,13 +88,42 @@ pub record IsWitnessedReply (old : Connected) (message : ClientMessage) (reply :
   pub replies : IsReplyOf message reply receipt
   pub witnessed : IsWitnessed old.client old.seen node ask receipt.answer receipt new.seen
 
--- a turn of a connection: its session sees more, and a reply to an update or to a read is witnessed
+-- a request of a connection is refused so: it may have been taken; or no call was made of it; or no step accepts its call, in the history
+-- that the session has seen since or in any that goes on from it, and its node refused it by its rules or was not asked
+abbrev pub IsRefusedRequest : Connected → NodeName → Ask → Refusal → Connected → Type 0
+IsRefusedRequest old node ask e new =
+    LeavesOpen e ⊎ (e ≡ BadFrame) ⊎ (new.seen ≡ old.seen) ⊎ IsRefusedCall old.client old.seen node ask e new.seen
+
+-- so is a message that is an update or a read
+abbrev pub IsRefusedMessage : Connected → ClientMessage → Refusal → Connected → Type 0
+IsRefusedMessage old (messages.Update node pass update) e new = IsRefusedRequest old (name_of node (asks.Update update)) (asks.Update update) e new
+IsRefusedMessage old (messages.Read node pass mode object) e new = IsRefusedRequest old (name_of node (asks.Read mode object)) (asks.Read mode object) e new
+IsRefusedMessage old messages.Status e new = ⊤
+
+-- a turn of a connection: its session sees more; a reply to an update or to a read is witnessed; and a refusal of one says whether it may
+-- have been taken
 abbrev pub IsWitnessedTurn : Connected → ClientMessage → ClientReply → Connected → Type 0
 IsWitnessedTurn old message (replies.Update pass reply) new = SeesMore old new × IsWitnessedReply old message (replies.Update pass reply) new
 IsWitnessedTurn old message (replies.Read pass version value) new = SeesMore old new × IsWitnessedReply old message (replies.Read pass version value) new
-IsWitnessedTurn old message reply new = SeesMore old new
+IsWitnessedTurn old message (replies.Refused e) new = SeesMore old new × IsRefusedMessage old message e new
+IsWitnessedTurn old message (replies.Status text) new = SeesMore old new
 
--- the connection has one more turn, of this call, which was asked when its session was `before`; the turn is witnessed
-abbrev pub HasWitnessedTurn : Connected → CallRequest → ConnectionState Connected → ConnectionState Connected → Type 0
-HasWitnessedTurn before q old new =
-    (reply : ClientReply) × HasOneMore (Waits q) old.codec new.phase new.codec (asked_by q) reply × IsWitnessedTurn before (asked_by q) reply new.session
+-- a new connection of an event loop reaches the state, at a server of this store
+abbrev pub IsReachableAt : Stored → ConnectionState Connected → Type 0
+IsReachableAt store state =
+    IsReachable (TellsStatus store) (λ node pass ask e. RefusesServed (length store.names) node ask e) (called_by (λ (token : Token). Submits) FinishesCall) FinishesCall state
+
+-- these turns are witnessed one after another, from the first session to the last
+abbrev pub AreWitnessed : Connected → History → Connected → Type 0
+AreWitnessed first [] last = last ≡ first
+AreWitnessed first (turn ∷ later) last = (mid : Connected) × IsWitnessedTurn first turn.0 turn.1 mid × AreWitnessed mid later last
+
+-- the bytes `read` came and the bytes `written` went on the connection: with those that are unsent, these are the frames of the replies of
+-- its turns. The turns are witnessed, and its session sees more since then only if a call is under way
+pub record IsWitnessedConnection (first : Connected) (read written : List ℕ) (state : ConnectionState Connected) : Type 0 where
+  pub turns : History
+  pub holds : Holds state.phase state.codec read written turns
+  pub last : Connected
+  pub witnessed : AreWitnessed first turns last
+  pub sees : SeesMore last state.session
+  pub rests : ((q : CallRequest) → state.phase ≢ Waits q) → state.session ≡ last

@@ -1,6 +1,7 @@
 //! `EventLoops`: the event loops of a server, made before serving starts. And serving by a few
 //! threads, an event loop each; called by `accepting`.
-ghost use Rattle.std.specs.Prelude.{◌≡◌, [], IfOk, length};
+ghost use Rattle.std.specs.Prelude.{◌≡◌, [], IfOk, IfSome, length};
+ghost use Rattle.craq_server.specs.Sessions.{IsReachableAt};
 
 use crate::accepting::{Next, Server, Serving, Taken};
 use crate::runtime::ServerRuntime;
@@ -12,8 +13,8 @@ use craq_frames::Text;
 use craq_names::Refusal;
 use craq_node::Core;
 use craq_seat::CallReceipt;
-use craq_session::{AsyncBackend, Backend, CallRequest, SubmitToken};
-use craq_workers::{AnsweredCall, Gate, Named};
+use craq_session::{AsyncBackend, Backend, CallRequest, ConnectionState, SubmitToken};
+use craq_workers::{Gate, Named};
 use std::alloc::{AllocError, Global};
 use std::net::{Net, TcpListener, TcpStream};
 use std::sync::atomic::{AtomicBool, AtomicU64, Ordering};
@@ -69,7 +70,7 @@ where
 
     type Session = StoreSession<C>;
 
-    type Reply = AnsweredCall<C>;
+    type Reply = StoreOutcome<C>;
 
     ghost submits = { λ context token. Submits };
 
@@ -80,7 +81,7 @@ where
         session: &mut StoreSession<C>,
         submit_token: SubmitToken,
         request: &CallRequest,
-    ) -> Result<Option<AnsweredCall<C>>, Refusal> {
+    ) -> Result<Option<StoreOutcome<C>>, Refusal> {
         self.backend.submit(session, submit_token, request)
     }
 
@@ -88,7 +89,7 @@ where
         &self,
         session: &mut StoreSession<C>,
         request: &CallRequest,
-        reply: AnsweredCall<C>,
+        reply: StoreOutcome<C>,
     ) -> Result<CallReceipt, Refusal> {
         self.backend.finish(session, request, reply)
     }
@@ -114,6 +115,10 @@ where
         self.backend.completions.take(&self.server.rt, into);
     }
 
+    fn run_queued(&self) {
+        self.backend.store.run_queued(&self.server.rt);
+    }
+
     fn arrival(&self) -> Option<Arrival<StoreSession<C>>> {
         self.inbox.lock(&self.server.rt).pop()
     }
@@ -136,7 +141,13 @@ where
             .max(reported)
     }
 
-    fn ended(&self, slot: usize, receipts: usize, calls: Vec<CallReceipt>) {
+    fn ended(&self, slot: usize, receipts: usize, state: Option<ConnectionState<StoreSession<C>>>)
+        requires { IfSome state (λ s. IsReachableAt self.now.backend.store.now s) }
+    {
+        let calls = match state {
+            Some(state) => self.backend.end_connection(state),
+            None => Vec::new(self.server.alloc),
+        };
         self.server.ended(slot, receipts, calls);
     }
 }

@@ -1,9 +1,11 @@
 //! `ServedStore`: a running store as the connections of one thread call it; made by `accepting` and
 //! `io_threads`.
-ghost use Rattle.std.specs.Prelude.{◌≡◌, ◌<◌, IfErr, IfOk, length};
+ghost use Rattle.std.specs.Prelude.{◌≡◌, ◌<◌, ℕ, IfErr, IfOk, List, length};
+ghost use Rattle.craq_pending_calls.specs.Refused.{CanRefuse};
 ghost use Rattle.craq_session.specs.Asking.{at_once};
+ghost use Rattle.craq_session.specs.Turns.{kept};
 ghost use Rattle.craq_server.specs.Refusing.{RefusesServed};
-ghost use Rattle.craq_server.specs.Sessions.{Finishes, Submits};
+ghost use Rattle.craq_server.specs.Sessions.{Connected, Finishes, IsReachableAt, IsWitnessedConnection, Submits};
 ghost use Rattle.craq_server.specs.Status.{TellsStatus};
 
 use crate::counters::Share;
@@ -15,16 +17,31 @@ use craq_completions::{Completion, CompletionQueue};
 use craq_frames::Text;
 use craq_names::Refusal;
 use craq_node::Core;
-use craq_pending_calls::pass_after;
+use craq_pending_calls::{pass_after, refusal_of_call};
 use craq_seat::CallReceipt;
-use craq_session::{AsyncBackend, Backend, BlockingBackend, CallRequest, Load, SubmitToken};
-use craq_workers::{AnsweredCall, AskingCaller, Gate, Named, OwnAsk, Store};
+use craq_session::{
+    AsyncBackend, Backend, BlockingBackend, CallRequest, ConnectionState, Load, SubmitToken,
+};
+use craq_workers::{Asked, CallRefusal, Destination, Gate, Named, Reach, Store};
 use std::alloc::{AllocError, Global};
 use std::sync::{Arc, Wait};
 
 /// The outcome of a call at the store: its reply, with what shows that a node of the store gave it,
 /// or the refusal.
 pub(crate) type StoreOutcome<C> = craq_workers::Outcome<C>;
+
+/// Returns the part of a chain that a thread of this load may run for a request.
+fn reach_of(load: Load) -> Reach
+    ensures single { load ≡ Load.Single → result ≡ Reach.WholeChain }
+    ensures light { load ≡ Load.Light → result ≡ Reach.WholeChainLater }
+    ensures full { load ≡ Load.Full → result ≡ Reach.OneNode }
+{
+    match load {
+        Load::Single => Reach::WholeChain,
+        Load::Light => Reach::WholeChainLater,
+        Load::Full => Reach::OneNode,
+    }
+}
 
 /// A running store as the connections of one thread call it. A request whose pass lies too far
 /// above the largest returned (`Passes`) is refused `Exhausted` and reaches no node. Each connection
@@ -48,15 +65,14 @@ where
     C: Core + Named,
     G: Gate,
 {
-    /// Submits a call in the session. Refused `Exhausted` for the pass, and if the session made
-    /// 2^64 - 1 calls; else as `Store::submit` is.
-    #[tactic(auto, using(crate::proofs::Sessions::submits_made, crate::proofs::Sessions::submits_nothing))]
+    /// Submits a call in the session. Refused, and no call is made, with `Exhausted` for the pass,
+    /// and as `Store::make_ask` is. A refusal of `Store::submit` is the call's reply.
     fn submit_call(
         &self,
         session: &mut StoreSession<C>,
         request: &CallRequest,
         submit_token: &SubmitToken,
-    ) -> Result<Option<AnsweredCall<C>>, Refusal>
+    ) -> Result<Option<StoreOutcome<C>>, Refusal>
         ensures refused { IfErr result (λ e. RefusesServed (length self.now.store.now.names) request.now.node request.now.ask e) }
         ensures known { IfOk result (λ _. request.now.node.chain < length self.now.store.now.names) }
         ensures submitted { Submits session.old request.now (at_once result) session.new }
@@ -65,30 +81,55 @@ where
             return Err(Refusal::Exhausted);
         }
         let made = session.make(self.store, &request.node, &request.ask)?;
-        let caller = AskingCaller {
+        let own = Asked {
+            made,
             pass: request.pass,
-            completions: &self.completions,
-            token: submit_token.token,
-            light_load: submit_token.load == Load::Light,
+            at: Destination {
+                completions: &self.completions,
+                token: submit_token.token,
+            },
         };
-        let own = OwnAsk { made, caller };
-        self.store.submit(&self.rt, &request.ask, own)
+        let reach = reach_of(submit_token.load);
+        match self.store.submit(&self.rt, &request.ask, own, reach) {
+            Ok(None) => Ok(None),
+            Ok(Some(answered)) => Ok(Some(Ok(answered))),
+            Err(refusal) => Ok(Some(Err(refusal))),
+        }
     }
 
     /// Finishes a call in the session that made it, and notes the pass that its client has from
-    /// then on. Returns the receipt of the reply, or `Closed` if the reply is of another call.
+    /// then on. Returns the receipt of the answer, or a refusal that the request can have: `Closed`
+    /// if the reply is of another call.
+    #[tactic(auto, using(crate::proofs::Sessions::finishes_possibly))]
     fn finish_call(
         &self,
         session: &mut StoreSession<C>,
         request: &CallRequest,
-        answered: AnsweredCall<C>,
+        reply: StoreOutcome<C>,
     ) -> Result<CallReceipt, Refusal>
-        ensures finished { Finishes session.old request.now.node answered result session.new }
-        ensures closed { IfErr result (λ e. e ≡ Refusal.Closed) }
+        ensures finished { Finishes session.old request.now.node reply result session.new }
+        ensures refused { IfErr result (λ e. CanRefuse request.now.ask e) }
     {
-        let receipt = session.finish(self.store, &request.node, answered)?;
-        self.passes.tell(pass_after(receipt.pass(), &receipt));
-        Ok(receipt)
+        match session.finish(self.store, &request.node, reply) {
+            Ok(receipt) => {
+                self.passes.tell(pass_after(receipt.pass(), &receipt));
+                Ok(receipt)
+            }
+            Err(refusal) => Err(refusal_of_call(&request.ask, refusal)),
+        }
+    }
+
+    /// Takes the receipts of a connection that has ended, where they are kept. A new connection
+    /// reached its state. **Each reply that was written on it to an update or to a read is witnessed
+    /// in the store's history**, after all that the connection had seen before: its turns are
+    /// witnessed, from its first byte to its last.
+    #[tactic(auto, using(crate::proofs::Reached::reachable_witnessed))]
+    pub(crate) fn end_connection(&self, state: ConnectionState<StoreSession<C>>) -> Vec<CallReceipt>
+        requires { IsReachableAt self.now.store.now state }
+        ensures receipts { result.items ≡ kept state.calls.keep_receipts state.calls.receipts.items }
+        ensures witnessed { (first : Connected) × (read : List ℕ) × (written : List ℕ) × IsWitnessedConnection first read written state }
+    {
+        state.into_receipts()
     }
 }
 
@@ -124,7 +165,7 @@ where
 
     type Session = StoreSession<C>;
 
-    type Reply = AnsweredCall<C>;
+    type Reply = StoreOutcome<C>;
 
     ghost submits = { λ served token. Submits };
 
@@ -135,7 +176,7 @@ where
         session: &mut StoreSession<C>,
         submit_token: SubmitToken,
         request: &CallRequest,
-    ) -> Result<Option<AnsweredCall<C>>, Refusal> {
+    ) -> Result<Option<StoreOutcome<C>>, Refusal> {
         self.share.count_ask(&request.ask);
         self.submit_call(session, request, &submit_token)
     }
@@ -144,7 +185,7 @@ where
         &self,
         session: &mut StoreSession<C>,
         request: &CallRequest,
-        reply: AnsweredCall<C>,
+        reply: StoreOutcome<C>,
     ) -> Result<CallReceipt, Refusal> {
         self.finish_call(session, request, reply)
     }
@@ -163,7 +204,7 @@ where
 {
     fn wait(&self) -> StoreOutcome<C> {
         let Some(completion) = self.completions.wait(&self.rt) else {
-            return Err(Refusal::Closed);
+            return Err(CallRefusal::without_call(Refusal::Closed));
         };
         let Completion { token: _, reply } = completion;
         reply

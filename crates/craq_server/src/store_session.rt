@@ -1,14 +1,16 @@
 //! `StoreSession`: the session of a connection of a served store, with its call that is under way;
 //! for `served_store`.
-ghost use Rattle.std.specs.Prelude.{◌≡◌, ◌⊎◌, [], None, Some, IfErr, IfOk};
+ghost use Rattle.std.specs.Prelude.{◌≡◌, ◌≤◌, ◌⊎◌, ◌↔◌, [], None, Some, Err, Ok, IfErr, IfOk, OnErr, length};
 ghost use mathlib.Core.List.{IsPrefix};
-ghost use Rattle.craq_server.specs.Sessions.{Finishes, MakesCall, SeesMore};
+ghost use Rattle.craq_server.specs.Sessions.{Finishes, GivesUp, MakesCall, SeesMore};
 
 use craq_model::Ask;
 use craq_names::{NodeName, Refusal};
 use craq_node::Core;
 use craq_seat::CallReceipt;
-use craq_workers::{AnsweredCall, CallId, Gate, MadeAsk, Named, Session, Store};
+use craq_workers::{
+    AnsweredCall, CallId, CallRefusal, Gate, MadeAsk, Named, Outcome, Session, Store,
+};
 use std::marker::Model;
 
 /// The session of a connection. A contract sees its client's number, the history that it has seen,
@@ -20,11 +22,14 @@ pub(crate) struct StoreSession<C: Named> {
 }
 
 impl<C: Named> Model for StoreSession<C> {
+    ghost use Rattle.std.specs.Prelude.{◌≡◌, IfSome};
     ghost use Rattle.craq_server.specs.Sessions.{Connected};
 
     ghost Value = { Connected };
 
     ghost view = { λ s. record { client = s.session.client; seen = s.session.seen; call = s.call } };
+
+    ghost invariant = { λ s. IfSome s.call (λ call. call.client ≡ s.session.client) };
 }
 
 impl<C: Core + Named> StoreSession<C> {
@@ -38,8 +43,8 @@ impl<C: Core + Named> StoreSession<C> {
         }
     }
 
-    /// Makes a call of this request, which is under way from then on. Refused with `Memory` when out
-    /// of memory, and with `Exhausted` if the session made 2^64 - 1 calls.
+    /// Makes a call of this request, which is under way from then on. Refused as `Store::make_ask`
+    /// is, and then nothing changes.
     pub(crate) fn make<G: Gate>(
         &mut self,
         store: &Store<C, G>,
@@ -49,24 +54,54 @@ impl<C: Core + Named> StoreSession<C> {
         ensures made { IfOk result (λ m. (m.name ≡ node.now) × (m.ask ≡ ask.now)) }
         ensures call { IfOk result (λ m. MakesCall self.old node.now ask.now self.new) }
         ensures later { SeesMore self.old self.new }
-        ensures refused { IfErr result (λ e. (e ≡ Refusal.Memory) ⊎ (e ≡ Refusal.Exhausted)) }
+        ensures unknown { (result ≡ Err Refusal.UnknownChain) ↔ (length store.now.names ≤ node.now.chain) }
+        ensures refused { IfErr result (λ e. (e ≡ Refusal.UnknownChain) ⊎ (e ≡ Refusal.Memory) ⊎ (e ≡ Refusal.Exhausted)) }
+        ensures same { OnErr result (self.new ≡ self.old) }
     {
         let (call, made) = store.make_ask(&mut self.session, node, ask)?;
         self.call = Some(call);
         Ok(made)
     }
 
-    /// Finishes the call that is under way, at a node of this name. Returns the receipt of the
-    /// reply, or `Closed` if the reply is of another call, or if no call is under way.
-    #[tactic(auto, using(crate::proofs::Sessions::finishes_made, crate::proofs::Sessions::sees_as_much))]
+    /// Finishes the call that is under way, at a node of this name, by its reply. Returns the
+    /// receipt of an answer, or `Closed` if it is of another call, or if no call is under way. A
+    /// call that was refused is given up.
     pub(crate) fn finish<G: Gate>(
+        &mut self,
+        store: &Store<C, G>,
+        node: &NodeName,
+        reply: Outcome<C>,
+    ) -> Result<CallReceipt, Refusal>
+        ensures { Finishes self.old node.now reply result self.new }
+    {
+        match reply {
+            Ok(answered) => self.finish_answered(store, node, answered),
+            Err(refusal) => Err(self.give_up(store, refusal)),
+        }
+    }
+
+    /// Gives up the call that is under way, which was refused so (`Store::give_up_ask`). Returns its
+    /// refusal, or `Closed` if no call is under way.
+    #[tactic(auto, using(crate::proofs::Sessions::gives_up_made, crate::proofs::Sessions::gives_none_up))]
+    fn give_up<G: Gate>(&mut self, store: &Store<C, G>, refusal: CallRefusal<C>) -> Refusal
+        ensures { GivesUp self.old refusal result self.new }
+    {
+        let Some(call) = self.call.take() else {
+            drop(refusal);
+            return Refusal::Closed;
+        };
+        store.give_up_ask(&mut self.session, refusal, call)
+    }
+
+    /// Finishes the call that is under way, at a node of this name, by its answer.
+    #[tactic(auto, using(crate::proofs::Sessions::finishes_made, crate::proofs::Sessions::sees_as_much))]
+    fn finish_answered<G: Gate>(
         &mut self,
         store: &Store<C, G>,
         node: &NodeName,
         answered: AnsweredCall<C>,
     ) -> Result<CallReceipt, Refusal>
-        ensures finished { Finishes self.old node.now answered result self.new }
-        ensures closed { IfErr result (λ e. e ≡ Refusal.Closed) }
+        ensures { Finishes self.old node.now (Ok answered) result self.new }
     {
         let Some(call) = self.call.take() else {
             drop(answered);

@@ -7,7 +7,6 @@ use crate::serving::RunningStore;
 use craq_cli::{BadWord, ControlLine, UsageError, control_line};
 use craq_names::{ChainId, NodeName, Refusal};
 use craq_place::MOST_CHAINS;
-use craq_seat::Receipt;
 use craq_workers::{ChainStatus, Named};
 use std::alloc::{AllocError, Global};
 use std::str::from_utf8;
@@ -58,12 +57,12 @@ fn tell_change<R: Eprint>(
     chains: &[ChainStatus],
     node: &NodeName,
     change: Change,
-    outcome: Result<Receipt, Refusal>,
+    refused: Option<Refusal>,
 ) {
     let (chain, id, word) = (chain_name(chains, node), node.node.get(), change.in_words());
-    let _ = match outcome {
-        Ok(_) => eprintln!(rt; "{chain}/{id} {word}"),
-        Err(refusal) => {
+    let _ = match refused {
+        None => eprintln!(rt; "{chain}/{id} {word}"),
+        Some(refusal) => {
             let number = refusal.number();
             eprintln!(rt; "{chain}/{id} not {word}: refused {number}, {refusal}")
         }
@@ -115,7 +114,7 @@ fn stop_node<R: Eprint + Wait, N: Named + Send + 'static>(
     node: NodeName,
 ) {
     let stopped = store.stop(rt, node.chain, node.node);
-    tell_change(rt, chains, &node, Change::Stopped, stopped);
+    tell_change(rt, chains, &node, Change::Stopped, stopped.err());
 }
 
 /// Returns the text about a chain: its epoch, and its members, the head first. Fails only when out
@@ -184,11 +183,11 @@ where
         ControlLine::ForceStop(node) => stop_node(&rt, store, chains, node),
         ControlLine::Remove(node) => {
             let removed = store.remove(&rt, node.chain, node.node);
-            tell_change(&rt, chains, &node, Change::Removed, removed);
+            tell_change(&rt, chains, &node, Change::Removed, removed.err());
         }
         ControlLine::Join(node) => {
             let joined = store.join(rt, node.chain, node.node);
-            tell_change(&rt, chains, &node, Change::Joined, joined);
+            tell_change(&rt, chains, &node, Change::Joined, joined.err());
         }
     }
     Ok(())

@@ -101,14 +101,16 @@ where
     let members = epoch(&rt, store)?;
     for _ in 0..TRIES {
         teller.begin(Call::Join);
-        let joined = store.join(rt, chain(), node);
-        if teller.end(Call::Join, joined == Err(Refusal::Memory)) {
-            if joined == Err(Refusal::ChainFull) {
+        let refused = store.join(rt, chain(), node).err();
+        if teller.end(Call::Join, refused == Some(Refusal::Memory)) {
+            if refused == Some(Refusal::ChainFull) {
                 let _ = println!(teller.host; "the chain is full");
                 return Ok(false);
             }
-            joined?;
-            return Ok(true);
+            return match refused {
+                None => Ok(true),
+                Some(refusal) => Err(refusal),
+            };
         }
         if !comes_to(teller.host, before) || epoch(&rt, store)? != members {
             return Err(Refusal::NotStopped);

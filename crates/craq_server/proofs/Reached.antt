@@ -1,0 +1,268 @@
+-- A connection of an event loop, from its first byte on.
+use Rattle.std.proofs.Common.{◌≡◌, ◌≢◌, ◌∙◌, ℕ, List, [], ◌∷◌, ◌++◌, None, Some, Result, Ok, Err, inl, inr, refl, sym, ap, subst, length}
+use Rattle.std.proofs.lemmas.List.{append-nil}
+use Rattle.craq_names.specs.declared.refusal.Refusal.{Refusal}
+use Rattle.craq_completions.specs.declared.token.Token.{Token}
+use Rattle.craq_frames.specs.declared.ask.ClientMessage.{ClientMessage}
+use Rattle.craq_frames.specs.declared.answer.ClientReply.{ClientReply}
+use Rattle.craq_front.specs.declared.protocol_codec.ProtocolCodec.{ProtocolCodec}
+use Rattle.craq_front.specs.Talk.{History}
+use Rattle.craq_seat.specs.Calls.{Called}
+use Rattle.craq_session.specs.Asking.{Calling, HasCalled, IsOutcome, IsSubmitted, called_by, directly, by_completion}
+use Rattle.craq_session.specs.ConnectionStates.{AnswersCall, Continues, Found, Holds, Took}
+use Rattle.craq_session.specs.Halves.{asked_by}
+use Rattle.craq_session.specs.Turns.{Refusing, for_memory, kept, name_of}
+use Rattle.craq_session.specs.declared.calls.DoorCalls.{DoorCalls}
+use Rattle.craq_session.specs.declared.call_request.CallRequest.{CallRequest}
+use Rattle.craq_session.specs.declared.asking.UnsentCall.{UnsentCall}
+use Rattle.craq_session.specs.declared.connection_state.ConnectionState.{ConnectionState}
+use Rattle.craq_session.specs.declared.connection_state.Ending.TheVariants as endings
+use Rattle.craq_session.specs.declared.connection_state.Phase.{Phase}
+use Rattle.craq_session.specs.declared.connection_state.Phase.TheVariants as phases
+use Rattle.craq_session.specs.declared.connection_state.Stepped.{Stepped}
+use Rattle.craq_session.specs.declared.connection_state.Stepped.TheVariants as steps
+use Rattle.craq_event_loop.specs.Advancing.{AsksBackend, IsNoCall, TakesSteps, call, none, step, under_key}
+use Rattle.craq_event_loop.specs.Belonging.{GetsCompletion, SendsBytes, ReceivesBytes}
+use Rattle.craq_event_loop.specs.Reaching.{Reaches, begins, completes, sends, receives}
+use Rattle.craq_event_loop.specs.Reaching as reaching
+use Rattle.craq_workers.specs.Stores.{Stored}
+use Rattle.craq_server.specs.Refusing.{RefusesServed}
+use Rattle.craq_server.specs.Status.{TellsStatus}
+use Rattle.craq_server.specs.Sessions.{AreWitnessed, Connected, FinishesCall, IsReachableAt, IsWitnessedConnection, IsWitnessedTurn, SeesMore, Submits}
+use Rattle.craq_server.proofs.Sessions.{sees_as_much}
+use Rattle.craq_server.proofs.Witnessing.{ended_witnessed, nothing_witnessed}
+
+-- one turn more
+witnessed_on : (first mid last : Connected) (turns : History) (m : ClientMessage) (r : ClientReply) → AreWitnessed first turns mid → IsWitnessedTurn mid m r last
+    → AreWitnessed first (turns ++ (m, r) ∷ []) last
+witnessed_on first mid last [] m r are now = (last, subst (λ (x : Connected). IsWitnessedTurn x m r last) are now, refl)
+witnessed_on first mid last (turn ∷ later) m r (next, is, are) now = (next, is, witnessed_on next mid last later m r are now)
+
+-- the session since the last turn: a call of it is under way, or it is as it was
+abbrev pub Since : Phase → Connected → Connected → Type 0
+Since (phases.Waits q) last now = (q.node ≡ name_of q.node.node q.ask) × IsSubmitted Submits FinishesCall q last None now
+Since phase last now = now ≡ last
+
+-- the turns so far, in a phase
+record Stood (first : Connected) (read written : List ℕ) (phase : Phase) (codec : ProtocolCodec) (now : Connected) : Type 0 where
+  turns : History
+  holds : Holds phase codec read written turns
+  last : Connected
+  witnessed : AreWitnessed first turns last
+  since : Since phase last now
+
+-- no call is under way after a turn, and after a look for the next frame
+continues_since : (p : Phase) (t u : ProtocolCodec) (now : Connected) → Continues p t u → Since p now now
+continues_since phases.Idle t u now continues = refl
+continues_since (phases.Asks m) t u now continues = refl
+continues_since (phases.Waits q) t u now continues = absurd continues
+continues_since (phases.Over why) t u now continues = refl
+
+found_since : (p : Phase) (s : Stepped) (t u : ProtocolCodec) (last now : Connected) → Found p s t u → now ≡ last → Since p last now
+found_since phases.Idle s t u last now found same = same
+found_since (phases.Asks m) s t u last now found same = same
+found_since (phases.Over why) s t u last now found same = same
+found_since (phases.Waits q) steps.Goes t u last now found same = absurd found
+found_since (phases.Waits q) (steps.Calls unsent) t u last now found same = absurd found
+found_since (phases.Waits q) steps.Starved t u last now found same = absurd found
+found_since (phases.Waits q) steps.Stays t u last now found same = absurd found
+
+-- the call that is under way is the one that was
+heard_since : (p r : Phase) (last now : Connected) → ((q : CallRequest) → r ≡ phases.Waits q → p ≡ phases.Waits q) → ((q : CallRequest) → p ≡ phases.Waits q → r ≡ phases.Waits q)
+    → Since p last now → Since r last now
+heard_since p (phases.Waits q) last now was stays s = subst (λ (x : Phase). Since x last now) (was q refl) s
+heard_since (phases.Waits q) phases.Idle last now was stays s = (let no : phases.Idle ≡ phases.Waits q = stays q refl in cc)
+heard_since (phases.Waits q) (phases.Asks m) last now was stays s = (let no : phases.Asks m ≡ phases.Waits q = stays q refl in cc)
+heard_since (phases.Waits q) (phases.Over why) last now was stays s = (let no : phases.Over why ≡ phases.Waits q = stays q refl in cc)
+heard_since phases.Idle phases.Idle last now was stays s = s
+heard_since phases.Idle (phases.Asks m) last now was stays s = s
+heard_since phases.Idle (phases.Over why) last now was stays s = s
+heard_since (phases.Asks n) phases.Idle last now was stays s = s
+heard_since (phases.Asks n) (phases.Asks m) last now was stays s = s
+heard_since (phases.Asks n) (phases.Over why) last now was stays s = s
+heard_since (phases.Over reason) phases.Idle last now was stays s = s
+heard_since (phases.Over reason) (phases.Asks m) last now was stays s = s
+heard_since (phases.Over reason) (phases.Over why) last now was stays s = s
+
+module _ (first : Connected) (read written : List ℕ) where
+  -- in the same phase, nothing happened
+  stood_still : (p r : Phase) (t u : ProtocolCodec) (now : Connected) → r ≡ p → u ≡ t → Stood first read written p t now → Stood first read written r u now
+  stood_still p r t u now same same_codec s =
+      subst (λ (x : Phase). Stood first read written x u now) (sym same) (subst (λ (x : ProtocolCodec). Stood first read written p x now) (sym same_codec) s)
+
+  -- a step without a call
+  took : (tells : List ℕ → Type 0) (p r : Phase) (s : Stepped) (t u : ProtocolCodec) (c d : DoorCalls) (now : Connected) → IsNoCall s → Took tells p s r t u c d
+      → Stood first read written p t now → Stood first read written r u now
+  took tells phases.Idle r s t u c d now no_call (found, more, same) stood = record {
+    turns = stood.turns;
+    holds = more read written stood.turns stood.holds;
+    last = stood.last;
+    witnessed = stood.witnessed;
+    since = found_since r s t u stood.last now found stood.since;
+  }
+  took tells (phases.Asks m) r steps.Goes t u c d now no_call (reply, more, turn, room, continues, same) stood = record {
+    turns = stood.turns ++ (m, reply) ∷ [];
+    holds = more read written stood.turns stood.holds;
+    last = now;
+    witnessed = witnessed_on first stood.last now stood.turns m reply stood.witnessed
+        (nothing_witnessed tells for_memory m stood.last now (kept c.keep_receipts c.receipts.items) d.receipts.items reply same stood.since turn);
+    since = continues_since r t u now continues;
+  }
+  took tells (phases.Asks m) r (steps.Calls unsent) t u c d now no_call h stood = absurd no_call
+  took tells (phases.Asks m) r steps.Starved t u c d now no_call h stood = absurd h
+  took tells (phases.Asks m) r steps.Stays t u c d now no_call h stood = absurd h
+  took tells (phases.Waits q) r steps.Goes t u c d now no_call h stood = absurd h
+  took tells (phases.Waits q) r (steps.Calls unsent) t u c d now no_call h stood = absurd no_call
+  took tells (phases.Waits q) r steps.Starved t u c d now no_call h stood = absurd h
+  took tells (phases.Waits q) r steps.Stays t u c d now no_call (same, same_codec, calls) stood = stood_still (phases.Waits q) r t u now same same_codec stood
+  took tells (phases.Over why) r steps.Goes t u c d now no_call h stood = absurd h
+  took tells (phases.Over why) r (steps.Calls unsent) t u c d now no_call h stood = absurd no_call
+  took tells (phases.Over why) r steps.Starved t u c d now no_call h stood = absurd h
+  took tells (phases.Over why) r steps.Stays t u c d now no_call (same, same_codec, calls) stood = stood_still (phases.Over why) r t u now same same_codec stood
+
+  -- the call that is under way has its outcome
+  answered : (q : CallRequest) (outcome : Result Called Refusal) (r : Phase) (t u : ProtocolCodec) (c d : DoorCalls) (turns : History) (last now : Connected)
+      → Holds (phases.Waits q) t read written turns → AreWitnessed first turns last → q.node ≡ name_of q.node.node q.ask
+      → HasCalled Submits FinishesCall q last outcome now → AnswersCall (phases.Waits q) outcome r t u c d → Stood first read written r u now
+  answered q outcome r t u c d turns last now holds are named has (reply, more, ends, continues) = record {
+    turns = turns ++ (asked_by q, reply) ∷ [];
+    holds = more read written turns holds;
+    last = now;
+    witnessed = witnessed_on first last now turns (asked_by q) reply are (ended_witnessed q last now outcome c.receipts.items d.receipts.items named has reply ends);
+    since = continues_since r t u now continues;
+  }
+
+  found_no_call : (r : Phase) (unsent : UnsentCall) (t u : ProtocolCodec) → Found r (steps.Calls unsent) t u → ⊥
+  found_no_call phases.Idle unsent t u h = h
+  found_no_call (phases.Asks m) unsent t u h = h
+  found_no_call (phases.Waits q) unsent t u h = h
+  found_no_call (phases.Over why) unsent t u h = h
+
+  -- a call that a step makes is submitted, and had its outcome at once or not
+  called : (tells : List ℕ → Type 0) (refuses : Refusing) (p r : Phase) (unsent : UnsentCall) (t : ProtocolCodec) (c : DoorCalls) (now : Connected) (made new : ConnectionState Connected)
+      → made.phase ≡ r → made.session ≡ now → Took tells p (steps.Calls unsent) r t made.codec c made.calls → AsksBackend refuses (IsSubmitted Submits FinishesCall) r made new
+      → Stood first read written p t now → Stood first read written new.phase new.codec new.session
+  called tells refuses phases.Idle r unsent t c now made new is session h asks stood = absurd (found_no_call r unsent t made.codec h.0)
+  called tells refuses (phases.Waits q) r unsent t c now made new is session h asks stood = absurd h
+  called tells refuses (phases.Over why) r unsent t c now made new is session h asks stood = absurd h
+  called tells refuses (phases.Asks m) phases.Idle unsent t c now made new is session h asks stood = absurd h
+  called tells refuses (phases.Asks m) (phases.Asks n) unsent t c now made new is session h asks stood = absurd h
+  called tells refuses (phases.Asks m) (phases.Over why) unsent t c now made new is session h asks stood = absurd h
+  called tells refuses (phases.Asks m) (phases.Waits q) unsent t c now made new is session (message, named, receipts, room, same) (inl (submitted, may, (phase, codec, calls))) stood =
+      stood_still (phases.Waits q) new.phase t new.codec new.session (phase ∙ is) (codec ∙ same) (record {
+        turns = stood.turns;
+        holds = subst (λ (x : ClientMessage). Holds (phases.Asks x) t read written stood.turns) message stood.holds;
+        last = stood.last;
+        witnessed = stood.witnessed;
+        since = (named, subst (λ (x : Connected). IsSubmitted Submits FinishesCall q x None new.session) (session ∙ stood.since) submitted);
+      })
+  called tells refuses (phases.Asks m) (phases.Waits q) unsent t c now made new is session (message, named, receipts, room, same) (inr (outcome, submitted, refusable, came)) stood =
+      let holds : Holds (phases.Waits q) t read written stood.turns = subst (λ (x : ClientMessage). Holds (phases.Asks x) t read written stood.turns) message stood.holds in
+      answered q outcome new.phase made.codec new.codec made.calls new.calls stood.turns stood.last new.session
+      (subst (λ (x : ProtocolCodec). Holds (phases.Waits q) x read written stood.turns) (sym same) holds)
+      stood.witnessed named
+      (directly (subst (λ (x : Connected). IsSubmitted Submits FinishesCall q x (Some outcome) new.session) (session ∙ stood.since) submitted))
+      (subst (λ (x : Phase). AnswersCall x outcome new.phase made.codec new.codec made.calls new.calls) is came)
+
+  -- so it is after some steps
+  taken : (tells : List ℕ → Type 0) (refuses : Refusing) (key before : ℕ) (old : ConnectionState Connected) (count : ℕ) (new : ConnectionState Connected) (after : ℕ)
+      → TakesSteps tells refuses (under_key (called_by (λ (token : Token). Submits) FinishesCall) key) old before count new after
+      → Stood first read written old.phase old.codec old.session → Stood first read written new.phase new.codec new.session
+  taken tells refuses key before old _ _ _ none stood = stood
+  taken tells refuses key before old _ _ _ (step earlier mid now number stepped until no_call h same) stood =
+      subst (λ (x : Connected). Stood first read written now.phase now.codec x) (sym same)
+      (took tells mid.phase now.phase stepped mid.codec now.codec mid.calls now.calls mid.session no_call h
+      (taken tells refuses key before old earlier mid number until stood))
+  taken tells refuses key before old _ _ _ (call earlier mid made now number unsent until h same asks) stood =
+      called tells refuses mid.phase made.phase unsent mid.codec mid.calls mid.session made now refl same h asks
+      (taken tells refuses key before old earlier mid number until stood)
+
+  -- its completion came
+  completed : (p : Phase) (reply outcome : Result Called Refusal) (old new : ConnectionState Connected) → IsOutcome FinishesCall p reply old.session outcome new.session
+      → AnswersCall p outcome new.phase old.codec new.codec old.calls new.calls → Stood first read written p old.codec old.session → Stood first read written new.phase new.codec new.session
+  completed (phases.Waits q) reply outcome old new finished answers stood =
+      answered q outcome new.phase old.codec new.codec old.calls new.calls stood.turns stood.last new.session stood.holds stood.witnessed stood.since.0
+      (by_completion old.session reply stood.since.1 finished) answers
+  completed phases.Idle reply outcome old new same (phase, codec, calls) stood =
+      stood_still phases.Idle new.phase old.codec new.codec new.session phase codec (subst (λ (x : Connected). Stood first read written phases.Idle old.codec x) (sym same) stood)
+  completed (phases.Asks m) reply outcome old new same (phase, codec, calls) stood =
+      stood_still (phases.Asks m) new.phase old.codec new.codec new.session phase codec (subst (λ (x : Connected). Stood first read written (phases.Asks m) old.codec x) (sym same) stood)
+  completed (phases.Over why) reply outcome old new same (phase, codec, calls) stood =
+      stood_still (phases.Over why) new.phase old.codec new.codec new.session phase codec (subst (λ (x : Connected). Stood first read written (phases.Over why) old.codec x) (sym same) stood)
+
+  -- bytes came
+  heard : (came : List ℕ) (old new : ConnectionState Connected) → ReceivesBytes came old new → Stood first read written old.phase old.codec old.session
+      → Stood first (read ++ came) written new.phase new.codec new.session
+  heard came old new h stood = record {
+    turns = stood.turns;
+    holds = h.heard read written stood.turns stood.holds;
+    last = stood.last;
+    witnessed = stood.witnessed;
+    since = subst (λ (x : Connected). Since new.phase stood.last x) (sym h.session)
+        (heard_since old.phase new.phase stood.last old.session (λ q. (h.waits q).0) (λ q. (h.waits q).1) stood.since);
+  }
+
+  -- bytes went
+  given : (went : List ℕ) (old new : ConnectionState Connected) → SendsBytes went old new → Stood first read written old.phase old.codec old.session
+      → Stood first read (written ++ went) new.phase new.codec new.session
+  given went old new g stood = record {
+    turns = stood.turns;
+    holds = g.given read written stood.turns stood.holds;
+    last = stood.last;
+    witnessed = stood.witnessed;
+    since = subst (λ (x : Phase). Since x stood.last new.session) (sym g.phase) (subst (λ (x : Connected). Since old.phase stood.last x) (sym g.session) stood.since);
+  }
+
+module _ (tells : List ℕ → Type 0) (refuses : Refusing) (first : ConnectionState Connected) where
+  stood_reached : (read written : List ℕ) (state : ConnectionState Connected) → Reaches tells refuses (called_by (λ (token : Token). Submits) FinishesCall) FinishesCall first read written state
+      → Stood first.session read written state.phase state.codec state.session
+  stood_reached _ _ _ (begins holds idle) = record {
+    turns = [];
+    holds = holds;
+    last = first.session;
+    witnessed = refl;
+    since = subst (λ (x : Phase). Since x first.session first.session) (sym idle) refl;
+  }
+  stood_reached _ _ _ (receives read_before written_before came old new before h) =
+      heard first.session read_before written_before came old new h (stood_reached read_before written_before old before)
+  stood_reached _ _ _ (sends read_before written_before went old new before g) =
+      given first.session read_before written_before went old new g (stood_reached read_before written_before old before)
+  stood_reached _ _ _ (reaching.steps read_before written_before old new key number count after before steps) =
+      taken first.session read_before written_before tells refuses key number old count new after steps (stood_reached read_before written_before old before)
+  stood_reached _ _ _ (completes read_before written_before old new reply before (outcome, is, answers)) =
+      completed first.session read_before written_before old.phase reply outcome old new is answers (stood_reached read_before written_before old before)
+
+  since_sees : (p : Phase) (last now : Connected) → Since p last now → SeesMore last now
+  since_sees (phases.Waits q) last now s = s.1.1
+  since_sees phases.Idle last now same = sees_as_much last now (ap (λ (x : Connected). x.client) same) (ap (λ (x : Connected). x.seen) same)
+  since_sees (phases.Asks m) last now same = sees_as_much last now (ap (λ (x : Connected). x.client) same) (ap (λ (x : Connected). x.seen) same)
+  since_sees (phases.Over why) last now same = sees_as_much last now (ap (λ (x : Connected). x.client) same) (ap (λ (x : Connected). x.seen) same)
+
+  since_rests : (p : Phase) (last now : Connected) → Since p last now → ((q : CallRequest) → p ≢ phases.Waits q) → now ≡ last
+  since_rests (phases.Waits q) last now s rests = absurd (rests q refl)
+  since_rests phases.Idle last now same _ = same
+  since_rests (phases.Asks m) last now same _ = same
+  since_rests (phases.Over why) last now same _ = same
+
+  pub reached_witnessed : (read written : List ℕ) (state : ConnectionState Connected) → Reaches tells refuses (called_by (λ (token : Token). Submits) FinishesCall) FinishesCall first read written state
+      → IsWitnessedConnection first.session read written state
+  reached_witnessed read written state reached =
+      let stood = stood_reached read written state reached in
+      record {
+        turns = stood.turns;
+        holds = stood.holds;
+        last = stood.last;
+        witnessed = stood.witnessed;
+        sees = since_sees state.phase stood.last state.session stood.since;
+        rests = since_rests state.phase stood.last state.session stood.since;
+      }
+
+-- so it is in each reachable state
+pub reachable_witnessed : (store : Stored) (state : ConnectionState Connected) → IsReachableAt store state
+    → (first : Connected) × (read : List ℕ) × (written : List ℕ) × IsWitnessedConnection first read written state
+reachable_witnessed store state (first, read, written, reached) = (
+  first.session,
+  read,
+  written,
+  reached_witnessed (TellsStatus store) (λ node pass ask e. RefusesServed (length store.names) node ask e) first read written state reached,
+)

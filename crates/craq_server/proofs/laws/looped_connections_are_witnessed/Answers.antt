@@ -1,0 +1,9 @@
+use Rattle.std.proofs.Common.{length}
+use Rattle.craq_server.specs.Refusing.{RefusesServed}
+use Rattle.craq_server.specs.Status.{TellsStatus}
+use Rattle.craq_server.proofs.Reached.{reached_witnessed}
+use Rattle.craq_server.proofs.laws.looped_connections_are_witnessed.Goals as goal
+
+pub returns : goal.returns
+returns c store read written first state reached =
+    reached_witnessed (TellsStatus store) (λ node pass ask e. RefusesServed (length store.names) node ask e) first read written state reached

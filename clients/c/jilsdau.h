@@ -136,7 +136,8 @@ static inline void jilsdau_close(struct jilsdau *it)
     *it = (struct jilsdau){.socket = -1};
 }
 
-/* Opens the connection again; id and pass stay. A call waits at most `patience` seconds, if it is not 0. JILSDAU_NO_SERVER if it fails. */
+/* Opens the connection again; id and pass stay. JILSDAU_NO_SERVER if it fails. From then on a call is JILSDAU_LOST if nothing comes
+ * or goes for `patience` seconds; if that is 0 it waits without a limit. */
 static inline int jilsdau_reopen(struct jilsdau *it, const char *host, const char *port, int patience)
 {
     struct addrinfo wanted = {.ai_socktype = SOCK_STREAM}, *found = NULL, *place;

@@ -10,7 +10,7 @@ from dataclasses import dataclass
 from typing import Callable, Iterable, Iterator, Optional, Sequence, TypeVar, Union, cast
 
 from . import wire
-from .connection import NoConnection, Pool
+from .connection import Deadline, NoConnection, Pool
 from .identity import default_address, default_id
 from .numbers import Numbers
 from .wire import BadReply, Key, Mismatch, Read, Refused, Reply, Request, Stale, UpdateReply
@@ -20,9 +20,11 @@ NO_VERSION = 2 ** 64 - 1
 HEALTH_KEY = "health"
 # The wait before a retry grows by this many seconds with each retry.
 PAUSE = 0.05
-# The tries of a request: the last comes 8 to 9 seconds after the first, and where no server answers
-# a second after it.
+# The tries of a request: where each fails at once the last comes 8 to 9 seconds after the first, and
+# where no server answers a second after it.
 TRIES, UNANSWERED = 19, 6
+# The new numbers that are tried for an update.
+NUMBERS = 8
 
 Told = Union[UpdateReply, Read, str]
 ChainName = Union[int, str]
@@ -76,14 +78,15 @@ class Client:
 
     Updates go to the head of their chain, and reads to any member, unless the call names a node.
     A chain is given by its id or its name. After a lost connection or a passing refusal the
-    request is retried, `tries` times in all, an update with its number, so it is done only once.
-    A call that names a node is tried there once.
+    request is retried, `tries` times in all and for `deadline` seconds, an update with its number, so
+    it is done only once. A call that names a node is tried there once.
 
     address: HOST:PORT; if None, CRAQ_CONNECT or 127.0.0.1:7000.
     client: an id that no other program uses; if None, CRAQ_CLIENT or the id kept for this user.
     shown: the pass to start with. Each request carries the largest pass received so far, so no
     strong read is older than a strong reply that this client has received.
-    connections: the most that are open at once. patience: seconds that a reply may take.
+    connections: the most that are open at once. patience: seconds that one try may take.
+    deadline: seconds that a request may take with all its tries.
 
     Nothing is sent before the first call. Calls raise Refused if the store refuses, Open if an
     update failed and may have been done, NoConnection and other OSErrors if no server answers,
@@ -92,12 +95,14 @@ class Client:
     """
 
     def __init__(self, address: Optional[str] = None, *, client: Optional[int] = None, shown: int = 0,
-                 tries: int = TRIES, connections: int = 8, patience: float = 10) -> None:
+                 tries: int = TRIES, connections: int = 8, patience: float = 10,
+                 deadline: float = 20) -> None:
         if tries < 1 or connections < 1:
             raise ValueError("a client has at least one try and one connection")
-        self.pool = Pool(default_address() if address is None else address, connections, patience)
+        self.pool = Pool(default_address() if address is None else address, connections)
         self.id = default_id() if client is None else client
-        self.tries, self.shown, self.numbers = tries, shown, Numbers()
+        self.tries, self.patience, self.deadline = tries, patience, deadline
+        self.shown, self.numbers = shown, Numbers()
         self.lock = threading.Lock()
         self.known: list[Chain] = []
 
@@ -163,38 +168,40 @@ class Client:
         """Sends an encoded command as an update, under a new number unless one is given.
 
         Raises Open if it failed and may have been done. A new number that is Stale at its first
-        try was never done (other programs use this client's id): it is exchanged for a larger one.
+        try was never done (other programs use this client's id): it is exchanged for a larger one,
+        seven times at most.
         """
+        tried = self.begin()
         if number is not None:
-            return self.numbered(chain, command, node, number)[0]
-        above = 0
+            return self.numbered(Asked(chain, command, number, node), tried)
+        above, left = 0, NUMBERS
         while True:
             with self.numbers.take(chain, above=above) as (fresh,):
-                told, is_repeated = self.numbered(chain, command, node, fresh)
-            if not isinstance(told, Stale):
+                told = self.numbered(Asked(chain, command, fresh, node), tried)
+            left -= 1
+            if not isinstance(told, Stale) or not left:
                 return told
-            if is_repeated:
+            if tried.may_be_done:
                 raise Open(self.id, [fresh],
                            BadReply(f"its number is below the kept ones, up to {told.last}"))
-            above = told.last
+            above, tried.count = told.last, 0
 
-    def numbered(self, chain: int, command: bytes, node: Optional[int],
-                 number: int) -> tuple[UpdateReply, bool]:
-        """Asks an update until it is answered. Tells whether an earlier try may have done it."""
-        tried = Tries()
+    def numbered(self, asked: Asked, tried: Tries) -> UpdateReply:
+        """Asks an update until it is answered."""
+        number, command = cast(int, asked.number), cast(bytes, asked.command)
 
-        def attempt() -> Told:
-            at = self.head(chain) if node is None else node
+        def attempt(limit: Deadline) -> Told:
+            at = self.head(asked.chain, limit) if asked.node is None else asked.node
             with tried.sending():
-                return self.ask(wire.update_request(at, self.shown, self.id, number, command))
+                return self.ask(wire.update_request(at, self.shown, self.id, number, command), limit)
 
         try:
-            told = self.retried(attempt, chain, tried) if node is None else attempt()
+            return cast(UpdateReply, self.retried(attempt, asked.chain, tried) if asked.node is None
+                        else attempt(tried.limit()))
         except (OSError, BadReply, Refused) as fault:
             if tried.may_be_done:
                 raise Open(self.id, [number], fault) from fault
             raise
-        return cast(UpdateReply, told), tried.may_be_done
 
     # Reads.
 
@@ -202,17 +209,17 @@ class Client:
             node: Optional[int] = None) -> Read:
         """Reads in mode STRONG, EVENTUAL or bounded(K); version 0 and no bytes if never written."""
         wire.key_bytes(key)
-        at = self.chain_id(chain)
+        at, tried = self.chain_id(chain), self.begin()
 
-        def attempt() -> Told:
-            asked = random.choice(self.chain(at).members) if node is None else node
-            return self.ask(wire.read_request(asked, self.shown, mode, at, key))
+        def attempt(limit: Deadline) -> Told:
+            asked = random.choice(self.chain(at, limit).members) if node is None else node
+            return self.ask(wire.read_request(asked, self.shown, mode, at, key), limit)
 
-        return cast(Read, self.retried(attempt, at, Tries()) if node is None else attempt())
+        return cast(Read, self.retried(attempt, at, tried) if node is None else attempt(tried.limit()))
 
     def members(self) -> list[Chain]:
         """Returns the chains by id, each with its members, head first, as the server has them now."""
-        return self.retried(self.refresh, None, Tries())
+        return self.retried(self.refresh, None, self.begin())
 
     def health(self, *, chain: ChainName = 0) -> Health:
         """Measures an update through the whole chain, which writes nothing, and a strong read at
@@ -224,7 +231,7 @@ class Client:
         if not isinstance(told, Mismatch):
             raise BadReply(f"another reply than a mismatch: {told}")
         reads = {}
-        for node in self.chain(at).members:
+        for node in self.chain(at, self.begin().limit()).members:
             began = time.perf_counter()
             self.get(HEALTH_KEY, chain=at, node=node)
             reads[node] = time.perf_counter() - began
@@ -270,12 +277,12 @@ class Client:
     def asked_at_once(self, asked: Sequence[Asked],
                       numbers: Sequence[Optional[int]]) -> list[Union[Told, Refused]]:
         """Asks these in one frame until the frame is answered."""
-        tried = Tries()
+        tried = self.begin()
 
-        def attempt() -> list[Reply]:
-            requests = [self.request(it, number) for it, number in zip(asked, numbers)]
+        def attempt(limit: Deadline) -> list[Reply]:
+            requests = [self.request(it, number, limit) for it, number in zip(asked, numbers)]
             with tried.sending():
-                return self.exchange(wire.many(requests), [kind for kind, _ in requests])
+                return self.exchange(wire.many(requests), [kind for kind, _ in requests], limit)
 
         try:
             return [it.told for it in self.retried(attempt, asked[0].chain, tried)]
@@ -285,19 +292,19 @@ class Client:
                 raise Open(self.id, used, fault) from fault
             raise
 
-    def request(self, it: Asked, number: Optional[int]) -> Request:
+    def request(self, it: Asked, number: Optional[int], limit: Deadline) -> Request:
         """Encodes a request of `many` for the present members."""
         if it.command is not None and number is not None:
-            node = self.head(it.chain) if it.node is None else it.node
+            node = self.head(it.chain, limit) if it.node is None else it.node
             return wire.update_request(node, self.shown, self.id, number, it.command)
-        node = random.choice(self.chain(it.chain).members) if it.node is None else it.node
+        node = random.choice(self.chain(it.chain, limit).members) if it.node is None else it.node
         return wire.read_request(node, self.shown, it.mode, it.chain, it.key)
 
     # The chains as they were last told.
 
-    def refresh(self) -> list[Chain]:
+    def refresh(self, limit: Deadline) -> list[Chain]:
         """Asks for the chains and remembers them."""
-        told = self.ask((wire.STATUS, b""))
+        told = self.ask((wire.STATUS, b""), limit)
         try:
             chains = json.loads(str(told))["chains"]
             self.known = [Chain(at, it["name"], it["epoch"], it["members"]) for at, it in enumerate(chains)]
@@ -305,9 +312,9 @@ class Client:
             raise BadReply("a status that is no list of chains") from fault
         return self.known
 
-    def chain(self, chain: int) -> Chain:
+    def chain(self, chain: int, limit: Deadline) -> Chain:
         """Returns a chain. Raises Refused(7) if there is no such chain."""
-        known = self.known or self.refresh()
+        known = self.known or self.refresh(limit)
         if not 0 <= chain < len(known):
             raise Refused(7)
         return known[chain]
@@ -322,9 +329,9 @@ class Client:
             raise Refused(7)
         return found[0]
 
-    def head(self, chain: int) -> int:
+    def head(self, chain: int, limit: Deadline) -> int:
         """Returns the node that updates of a chain go to."""
-        return self.chain(chain).members[0]
+        return self.chain(chain, limit).members[0]
 
     def moves(self, chain: int, head: int) -> None:
         """Remembers another head, as a refusal told it."""
@@ -337,18 +344,25 @@ class Client:
 
     # One exchange.
 
-    def retried(self, attempt: Callable[[], T], chain: Optional[int], tried: Tries) -> T:
-        """Repeats the attempt after a lost connection or a passing refusal, `tries` times in all."""
+    def begin(self) -> Tries:
+        """Returns the tries of a request that begins now."""
+        return Tries(Deadline(self.deadline), self.patience)
+
+    def retried(self, attempt: Callable[[Deadline], T], chain: Optional[int], tried: Tries) -> T:
+        """Repeats the attempt after a lost connection or a passing refusal, `tries` times in all, until
+        the deadline."""
         while True:
             tried.count += 1
             try:
-                return attempt()
+                return attempt(tried.limit())
             except (OSError, Refused) as fault:
                 lasts = isinstance(fault, Refused) and fault.number not in wire.PASSING
                 gone = isinstance(fault, NoConnection) and tried.count >= UNANSWERED
                 if lasts or gone or tried.count >= self.tries:
                     raise
                 self.prepare(fault, chain, tried)
+                if not tried.deadline.left():
+                    raise
 
     def prepare(self, fault: Exception, chain: Optional[int], tried: Tries) -> None:
         """Prepares the next try: goes to the head that a refusal names, or waits and asks for the chains."""
@@ -356,25 +370,25 @@ class Client:
         if is_redirect and chain is not None:
             self.moves(chain, fault.detail)
             return
-        time.sleep(PAUSE * tried.count)
+        time.sleep(min(PAUSE * tried.count, tried.deadline.left()))
         if chain is not None and self.known:
             with contextlib.suppress(OSError, Refused):
-                self.refresh()
+                self.refresh(tried.limit())
 
-    def ask(self, request: Request) -> Told:
+    def ask(self, request: Request, limit: Deadline) -> Told:
         """Asks one request once, and raises what it is refused with."""
-        told = self.exchange(wire.one(1, request), [request[0]])[0].told
+        told = self.exchange(wire.one(1, request), [request[0]], limit)[0].told
         if isinstance(told, Refused):
             raise told
         return told
 
-    def exchange(self, payload: bytes, kinds: Sequence[int]) -> list[Reply]:
+    def exchange(self, payload: bytes, kinds: Sequence[int], limit: Deadline) -> list[Reply]:
         """Asks a payload with requests of these kinds, once; keeps the largest pass of the replies.
 
-        Raises BadReply if they do not fit the requests, and a refusal of the whole payload. The
-        connection is then closed, and the pass stays.
+        Raises BadReply if they do not fit the requests, a refusal of the whole payload, and an OSError if
+        they do not come in time. The connection is then closed, and the pass stays.
         """
-        with self.pool.connection() as made:
+        with self.pool.connection(limit) as made:
             made.send(payload)
             replies = wire.replies_of(made.receive())
             check_replies(replies, kinds)
@@ -401,10 +415,15 @@ def check_replies(replies: Sequence[Reply], kinds: Sequence[int]) -> None:
 
 
 class Tries:
-    """The count of tries of one request, and whether one of them may have done it."""
+    """The tries of one request: their count, the deadline of all, and whether one may have done it."""
 
-    def __init__(self) -> None:
+    def __init__(self, deadline: Deadline, patience: float) -> None:
+        self.deadline, self.patience = deadline, patience
         self.count, self.may_be_done = 0, False
+
+    def limit(self) -> Deadline:
+        """Returns the deadline of a try that begins now."""
+        return Deadline(self.patience, self.deadline)
 
     @contextlib.contextmanager
     def sending(self) -> Iterator[None]:

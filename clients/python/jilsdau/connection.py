@@ -4,9 +4,12 @@ from __future__ import annotations
 import contextlib
 import socket
 import threading
-from typing import Iterator
+import time
+from typing import Iterator, Optional
 
 from .wire import FRAME_LIMIT, BadReply, number
+
+LATE = "no reply came in time"
 
 
 def place_of(address: str) -> tuple[str, int]:
@@ -21,10 +24,34 @@ class NoConnection(ConnectionError):
     """No connection was made, so nothing was sent."""
 
 
+class Deadline:
+    """The time at which a wait ends: this many seconds from now, or another deadline if it is earlier."""
+
+    def __init__(self, seconds: float, before: Optional[Deadline] = None) -> None:
+        self.at = time.monotonic() + seconds
+        if before is not None:
+            self.at = min(self.at, before.at)
+
+    def left(self) -> float:
+        """Returns the seconds that are left, at least 0."""
+        return max(0.0, self.at - time.monotonic())
+
+    def some(self) -> float:
+        """Returns the seconds that are left. Raises TimeoutError if there are none."""
+        left = self.left()
+        if not left:
+            raise TimeoutError(LATE)
+        return left
+
+
 class Connection:
-    """Payloads over TCP, each in a frame. A call waits at most `patience` seconds."""
+    """Payloads over TCP, each in a frame.
+
+    A call of the socket waits at most `patience` seconds, or until the deadline once there is one.
+    """
 
     def __init__(self, address: str, patience: float = 10) -> None:
+        self.deadline: Optional[Deadline] = None
         self.socket = socket.create_connection(place_of(address), patience)
         self.socket.setsockopt(socket.IPPROTO_TCP, socket.TCP_NODELAY, 1)
 
@@ -32,12 +59,23 @@ class Connection:
     def over(cls, made: socket.socket) -> Connection:
         """Frames over a connected socket."""
         it = cls.__new__(cls)
-        it.socket = made
+        it.socket, it.deadline = made, None
         return it
+
+    @contextlib.contextmanager
+    def waiting(self) -> Iterator[None]:
+        """Lets a call of the socket wait until the deadline. Raises TimeoutError at the deadline."""
+        if self.deadline is not None:
+            self.socket.settimeout(self.deadline.some())
+        try:
+            yield
+        except socket.timeout as fault:
+            raise TimeoutError(LATE) from fault
 
     def send(self, *payloads: bytes) -> None:
         """Sends payloads, each in a frame."""
-        self.socket.sendall(b"".join(number(4, len(it)) + it for it in payloads))
+        with self.waiting():
+            self.socket.sendall(b"".join(number(4, len(it)) + it for it in payloads))
 
     def receive(self) -> bytes:
         """Receives the payload of the next frame. Raises BadReply if it is above the limit."""
@@ -50,7 +88,8 @@ class Connection:
         """Receives this many bytes. Raises ConnectionError if the stream ends before."""
         got = b""
         while len(got) < size:
-            more = self.socket.recv(size - len(got))
+            with self.waiting():
+                more = self.socket.recv(size - len(got))
             if not more:
                 raise ConnectionError("the server closed the connection")
             got += more
@@ -64,19 +103,23 @@ class Connection:
 class Pool:
     """Up to `size` connections to one server, each used by one call at a time."""
 
-    def __init__(self, address: str, size: int = 8, patience: float = 10) -> None:
+    def __init__(self, address: str, size: int = 8) -> None:
         place_of(address)
-        self.address, self.patience = address, patience
+        self.address = address
         self.room, self.lock = threading.BoundedSemaphore(size), threading.Lock()
         self.idle: list[Connection] = []
 
     @contextlib.contextmanager
-    def connection(self) -> Iterator[Connection]:
-        """Lends a connection. One whose use raises is closed; any other is kept for the next call."""
-        with self.room:
+    def connection(self, deadline: Deadline) -> Iterator[Connection]:
+        """Lends a connection until this deadline. One whose use raises is closed; any other is kept for
+        the next call. Raises NoConnection if none is free in time, or none can be opened."""
+        if not self.room.acquire(timeout=deadline.left()):
+            raise NoConnection(f"no connection to {self.address} was free in time")
+        try:
             with self.lock:
                 made = self.idle.pop() if self.idle else None
-            made = made or self.connect()
+            made = made or self.connect(deadline)
+            made.deadline = deadline
             try:
                 yield made
             except BaseException:
@@ -84,11 +127,13 @@ class Pool:
                 raise
             with self.lock:
                 self.idle.append(made)
+        finally:
+            self.room.release()
 
-    def connect(self) -> Connection:
+    def connect(self, deadline: Deadline) -> Connection:
         """Opens a connection. Raises NoConnection with the address and the cause."""
         try:
-            return Connection(self.address, self.patience)
+            return Connection(self.address, deadline.some())
         except OSError as fault:
             raise NoConnection(f"no connection to {self.address}: {fault.strerror or fault}") from fault
 

@@ -3,6 +3,7 @@
 ghost use Rattle.std.specs.Prelude.{◌<◌};
 
 use crate::calling::{Asker, connection, exchange_over};
+use crate::deadline::{Deadline, MOST_SECONDS};
 use crate::fault::Fault;
 use crate::tally::Tally;
 use craq_cli::Load;
@@ -189,7 +190,21 @@ fn ask_over(
     Ok((is_refused, stream))
 }
 
-/// Sends one request after another over a connection, until the load is over.
+/// Connects to the server. Each read and each write of the connection may take 20 seconds.
+fn patient_connection<R>(rt: &R, address: &str) -> Result<TcpStream, Fault>
+where
+    R: Clock + Net<Listener = TcpListener, Stream = TcpStream>,
+{
+    let stream = connection(rt, address, Deadline::begin(rt)?)?;
+    let time = Some(Duration::from_secs(MOST_SECONDS));
+    if stream.set_read_timeout(time).is_err() || stream.set_write_timeout(time).is_err() {
+        return Err(Fault::Connection);
+    }
+    Ok(stream)
+}
+
+/// Sends one request after another over a connection, until the load is over. `Connection` if a part
+/// of a reply takes longer than 20 seconds.
 fn run_connection<R>(
     rt: &R,
     caller: &Caller<'_>,
@@ -199,7 +214,7 @@ fn run_connection<R>(
 where
     R: AllocGlobal + Clock + Net<Listener = TcpListener, Stream = TcpStream>,
 {
-    let mut stream = connection(rt, caller.asker.address)?;
+    let mut stream = patient_connection(rt, caller.asker.address)?;
     let mut began = now(rt)?;
     let mut put = caller.before;
     for number in 0..u64::MAX {

@@ -1,8 +1,10 @@
-//! One request to the server, and the text of its answer; for `main`, `shell`, `watch` and `bench`.
+//! One request to the server, and the text of its answer; for `main`, `shell`, `watch`, `bench` and
+//! `link`.
 ghost use Rattle.std.specs.Prelude.{◌≡◌};
 
+use crate::deadline::Deadline;
 use crate::fault::Fault;
-use crate::link::{Failure, Link};
+use crate::link::Link;
 use craq_cli::Request;
 use craq_frames::{ClientMessage, ClientReply};
 use craq_front::{Stream, exchange};
@@ -11,7 +13,8 @@ use craq_names::{NodeId, Pass, Refusal};
 use craq_text::{asked_update, print_answer, print_refusal, read_of};
 use std::alloc::{AllocError, Global};
 use std::io::ErrorKind;
-use std::net::{Net, TcpListener, TcpStream};
+use std::net::{Net, TcpListener, TcpStream, ToSocketAddrs};
+use std::time::Clock;
 
 /// The node that is asked, and the pass that is shown.
 #[derive(Clone, Copy, Debug)]
@@ -125,16 +128,34 @@ fn shown_of(alloc: Global, reply: ClientReply, pass: Pass) -> Result<Shown, Allo
     }
 }
 
-/// Connects to the server.
-pub fn connection<R>(rt: &R, address: &str) -> Result<TcpStream, Fault>
-where
-    R: Net<Listener = TcpListener, Stream = TcpStream>,
-{
-    match TcpStream::connect(rt, address) {
-        Ok(stream) => Ok(stream),
-        Err(error) if error.kind() == ErrorKind::OutOfMemory => Err(Fault::Memory),
-        Err(_) => Err(Fault::Connection),
+/// Returns the fault of a connection that was not made.
+fn fault_of_error(kind: ErrorKind) -> Fault {
+    match kind {
+        ErrorKind::OutOfMemory => Fault::Memory,
+        _ => Fault::Connection,
     }
+}
+
+/// Connects to the server: tries each of its addresses in turn, until the deadline.
+pub fn connection<R>(rt: &R, address: &str, deadline: Deadline) -> Result<TcpStream, Fault>
+where
+    R: Clock + Net<Listener = TcpListener, Stream = TcpStream>,
+{
+    let places = match address.to_socket_addrs(rt) {
+        Ok(places) => places,
+        Err(error) => return Err(fault_of_error(error.kind())),
+    };
+    let mut fault = Fault::Connection;
+    for place in places {
+        let Some(left) = deadline.left(rt) else {
+            return Err(Fault::Connection);
+        };
+        match TcpStream::connect_timeout(rt, &place, left) {
+            Ok(stream) => return Ok(stream),
+            Err(error) => fault = fault_of_error(error.kind()),
+        }
+    }
+    Err(fault)
 }
 
 /// Returns the fault of an exchange that gave no reply.
@@ -161,14 +182,13 @@ pub fn exchange_over(
     }
 }
 
-/// Sends a message over a connection of its own, and gives the reply.
+/// Sends a message over a connection of its own, and gives the reply, which may take 20 seconds.
 pub fn reply_to<R>(rt: &R, address: &str, message: &ClientMessage) -> Result<ClientReply, Fault>
 where
-    R: AllocGlobal + Net<Listener = TcpListener, Stream = TcpStream>,
+    R: AllocGlobal + Clock + Net<Listener = TcpListener, Stream = TcpStream>,
 {
-    let stream = connection(rt, address)?;
-    let (reply, _stream) = exchange_over(rt.alloc(), stream, message)?;
-    Ok(reply)
+    let deadline = Deadline::begin(rt)?;
+    Ok(Link::new(address).ask(rt, message, deadline)?)
 }
 
 /// Prints a refusal in words on standard error, if it is one.
@@ -182,8 +202,8 @@ pub fn explain<R: Eprint>(rt: &R, shown: &Shown) -> Result<(), Fault> {
     }
 }
 
-/// Asks over a connection that is kept, and gives what is to be printed of the answer. What is
-/// refused whatever the server says is not sent.
+/// Asks once, over the connection that is kept if there is one, and gives what is to be printed of
+/// the answer, which may take 20 seconds. What is refused whatever the server says is not sent.
 pub fn shown_over<R>(
     rt: &R,
     link: &mut Link<'_>,
@@ -191,32 +211,12 @@ pub fn shown_over<R>(
     request: &Request,
 ) -> Result<Shown, Fault>
 where
-    R: AllocGlobal + Net<Listener = TcpListener, Stream = TcpStream>,
+    R: AllocGlobal + Clock + Net<Listener = TcpListener, Stream = TcpStream>,
 {
+    let deadline = Deadline::begin(rt)?;
     match message_in(rt.alloc(), asker.node, asker.pass, request) {
         Ok(message) => {
-            let replied = link.ask(rt, &message);
-            drop(message);
-            match replied {
-                Ok(reply) => Ok(shown_of(rt.alloc(), reply, asker.pass)?),
-                Err(Failure::Memory) => Err(Fault::Memory),
-                Err(_) => Err(Fault::Connection),
-            }
-        }
-        Err(Refusal::Memory) => Err(Fault::Memory),
-        Err(refusal) => Ok(refused(rt.alloc(), &refusal)?),
-    }
-}
-
-/// Asks over a connection of its own, and gives what is to be printed of the answer. What is
-/// refused whatever the server says is not sent.
-pub fn shown_for<R>(rt: &R, asker: &Asker<'_>, request: &Request) -> Result<Shown, Fault>
-where
-    R: AllocGlobal + Net<Listener = TcpListener, Stream = TcpStream>,
-{
-    match message_in(rt.alloc(), asker.node, asker.pass, request) {
-        Ok(message) => {
-            let replied = reply_to(rt, asker.address, &message);
+            let replied = link.ask(rt, &message, deadline);
             drop(message);
             Ok(shown_of(rt.alloc(), replied?, asker.pass)?)
         }

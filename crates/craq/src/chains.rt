@@ -1,10 +1,12 @@
 //! `Chain`: a chain as the status of the server describes it; for `asking` and `people`.
+use crate::deadline::Deadline;
 use crate::link::{Failure, Link};
 use craq_frames::{ClientMessage, ClientReply};
 use craq_names::{ChainId, NodeId, Refusal};
 use serde_json::Value;
 use std::alloc::Global;
 use std::net::{Net, TcpListener, TcpStream};
+use std::time::Clock;
 
 /// A chain.
 #[derive(Debug, Drop)]
@@ -77,12 +79,12 @@ fn chains_of(alloc: Global, status: &str) -> Result<Vec<Chain>, Failure> {
     }
 }
 
-/// Asks the server for its chains.
-pub fn chains<R>(rt: &R, link: &mut Link<'_>) -> Result<Vec<Chain>, Failure>
+/// Asks the server once for its chains, and waits until the deadline.
+pub fn chains<R>(rt: &R, link: &mut Link<'_>, deadline: Deadline) -> Result<Vec<Chain>, Failure>
 where
-    R: AllocGlobal + Net<Listener = TcpListener, Stream = TcpStream>,
+    R: AllocGlobal + Clock + Net<Listener = TcpListener, Stream = TcpStream>,
 {
-    match link.ask(rt, &ClientMessage::Status)? {
+    match link.ask(rt, &ClientMessage::Status, deadline)? {
         ClientReply::Status(status) => chains_of(rt.alloc(), status.as_str()),
         ClientReply::Refused(refusal) => Err(Failure::Refused(refusal)),
         _ => Err(Failure::NoReply),

@@ -1,5 +1,6 @@
 //! Why `craq` ends without an answer once its command line was read, with the text and the status
 //! of each reason; for the modules of `craq`.
+use crate::link::Failure;
 use craq_cli::{BAD_INPUT, CANNOT_PRINT, report_memory};
 use std::alloc::{AllocError, AllocFailed};
 use std::io;
@@ -7,7 +8,7 @@ use std::io;
 /// The status after a refusal, and where a growth was refused.
 pub const REFUSED: u8 = 3;
 
-/// The status where there is no connection, or it broke.
+/// The status where there is no connection, it broke, or no reply came in time.
 pub const NO_CONNECTION: u8 = 4;
 
 /// Where a client's id was looked for.
@@ -24,7 +25,7 @@ pub enum IdSource {
 pub enum Fault {
     /// A growth was refused.
     Memory,
-    /// There is no connection, or it broke.
+    /// There is no connection, it broke, or no reply came in time.
     Connection,
     /// The input cannot be read, or the clock gives no time.
     System,
@@ -37,6 +38,16 @@ pub enum Fault {
 impl<T: Drop> From<AllocFailed<T>> for Fault {
     fn from(_error: AllocFailed<T>) -> Fault {
         Fault::Memory
+    }
+}
+
+impl From<Failure> for Fault {
+    fn from(failure: Failure) -> Fault {
+        match failure {
+            Failure::Memory => Fault::Memory,
+            Failure::NoClock => Fault::System,
+            _ => Fault::Connection,
+        }
     }
 }
 

@@ -151,9 +151,9 @@ where
 /// Returns the members of the target's chain.
 fn members<R>(rt: &R, link: &mut Link<'_>, target: &Target) -> Result<Vec<NodeId>, Failure>
 where
-    R: AllocGlobal + Net<Listener = TcpListener, Stream = TcpStream>,
+    R: AllocGlobal + Clock + Net<Listener = TcpListener, Stream = TcpStream>,
 {
-    let chains = chains(rt, link)?;
+    let chains = chains(rt, link, target.deadline.of_try(rt))?;
     let members = members_of(chains.as_slice(), target.chain)?;
     Ok(Vec::from_slice(rt.alloc(), members)?)
 }

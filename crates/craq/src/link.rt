@@ -1,15 +1,16 @@
 //! `Link`: the connection to the server, kept from one request to the next; for `shell` and
 //! `asking`.
-use crate::calling::{connection, exchange_over};
+use crate::calling::connection;
+use crate::deadline::Deadline;
 use crate::fault::Fault;
+use crate::timed::TimedStream;
 use craq_frames::{ClientMessage, ClientReply};
+use craq_front::{Stream, exchange};
 use craq_names::Refusal;
-use std::alloc::{AllocError, AllocFailed, Global};
+use std::alloc::{AllocError, AllocFailed};
+use std::io::ErrorKind;
 use std::net::{Net, TcpListener, TcpStream};
-use std::time::Duration;
-
-/// The seconds that a reply may take.
-const PATIENCE_SECONDS: u64 = 10;
+use std::time::Clock;
 
 /// The reason that a request was not answered.
 #[derive(Clone, Copy, Debug, PartialEq, Eq)]
@@ -20,9 +21,10 @@ pub enum Failure {
     Refused(Refusal),
     /// No connection could be made: nothing was sent.
     Unsent,
-    /// The connection broke after something was sent, or no reply came in time: an update may have
-    /// been done.
+    /// The connection broke after something was sent: an update may have been done.
     Broken,
+    /// No whole reply came in time: an update may have been done.
+    Late,
     /// Bytes came that are no reply to this request: an update may have been done.
     NoReply,
     /// The clock gives no time.
@@ -50,6 +52,21 @@ pub struct Link<'a> {
     stream: Option<TcpStream>,
 }
 
+/// Returns true if the server has neither closed a connection nor sent anything over it.
+fn is_open(stream: &TcpStream) -> bool {
+    if stream.set_nonblocking(true).is_err() {
+        return false;
+    }
+    let seen = stream.peek(&mut [0u8; 1]);
+    if stream.set_nonblocking(false).is_err() {
+        return false;
+    }
+    match seen {
+        Ok(_) => false,
+        Err(error) => error.kind() == ErrorKind::WouldBlock,
+    }
+}
+
 impl<'a> Link<'a> {
     /// Makes a link. The first request makes the connection.
     pub fn new(address: &'a str) -> Self {
@@ -65,57 +82,58 @@ impl<'a> Link<'a> {
     }
 
     /// Asks over this connection, and keeps the connection if a reply came.
-    fn ask_over(
+    fn ask_over<R: AllocGlobal + Clock>(
         &mut self,
-        alloc: Global,
+        rt: &R,
         stream: TcpStream,
         message: &ClientMessage,
+        deadline: Deadline,
     ) -> Result<ClientReply, Failure> {
-        match exchange_over(alloc, stream, message) {
-            Ok((reply, stream)) => {
+        let mut timed = Stream::new(TimedStream::new(rt, stream, deadline));
+        let exchanged = exchange(rt.alloc(), &mut timed, message);
+        let (stream, is_late) = timed.into_inner().into_parts();
+        match exchanged {
+            Ok(reply) => {
                 self.stream = Some(stream);
                 Ok(reply)
             }
-            Err(Fault::Memory) => Err(Failure::Memory),
+            Err(Refusal::Memory) => Err(Failure::Memory),
+            Err(_) if is_late => Err(Failure::Late),
             Err(_) => Err(Failure::Broken),
         }
     }
 
-    /// Asks over a new connection.
-    fn ask_anew<R>(&mut self, rt: &R, message: &ClientMessage) -> Result<ClientReply, Failure>
-    where
-        R: AllocGlobal + Net<Listener = TcpListener, Stream = TcpStream>,
-    {
-        match connection(rt, self.address) {
-            Ok(stream) => {
-                let patience = Duration::from_secs(PATIENCE_SECONDS);
-                let _ = stream.set_read_timeout(Some(patience));
-                self.ask_over(rt.alloc(), stream, message)
-            }
-            Err(Fault::Memory) => Err(Failure::Memory),
-            Err(_) => Err(Failure::Unsent),
-        }
+    /// Returns the connection that was kept, if it is still open.
+    fn kept(&mut self) -> Option<TcpStream> {
+        let kept = self.stream.take()?;
+        if is_open(&kept) { Some(kept) } else { None }
     }
 
-    /// Asks a request and waits for its reply, 10 seconds for each part of it. A server may have
-    /// closed a kept connection in the meantime, so a request that fails there is sent once more
-    /// over a new one.
+    /// Asks a request once, and waits for its reply until the deadline. A server may have closed the
+    /// connection that was kept: then a new one is made first.
     ///
-    /// `Memory` when out of memory, `Unsent` if there is no connection and nothing was sent,
-    /// `Broken` if the connection broke. The next request then makes a new connection.
-    pub fn ask<R>(&mut self, rt: &R, message: &ClientMessage) -> Result<ClientReply, Failure>
+    /// - `Memory` when out of memory.
+    /// - `Unsent` if no connection was made, so that nothing was sent.
+    /// - `Broken` if the connection broke.
+    /// - `Late` if no whole reply came in time.
+    ///
+    /// After each of these the next request makes a new connection.
+    pub fn ask<R>(
+        &mut self,
+        rt: &R,
+        message: &ClientMessage,
+        deadline: Deadline,
+    ) -> Result<ClientReply, Failure>
     where
-        R: AllocGlobal + Net<Listener = TcpListener, Stream = TcpStream>,
+        R: AllocGlobal + Clock + Net<Listener = TcpListener, Stream = TcpStream>,
     {
-        let Some(kept) = self.stream.take() else {
-            return self.ask_anew(rt, message);
-        };
-        match self.ask_over(rt.alloc(), kept, message) {
-            Err(Failure::Broken) => match self.ask_anew(rt, message) {
-                Err(Failure::Unsent) => Err(Failure::Broken),
-                asked => asked,
-            },
-            asked => asked,
+        if let Some(kept) = self.kept() {
+            return self.ask_over(rt, kept, message, deadline);
+        }
+        match connection(rt, self.address, deadline) {
+            Ok(stream) => self.ask_over(rt, stream, message, deadline),
+            Err(Fault::Memory) => Err(Failure::Memory),
+            Err(_) => Err(Failure::Unsent),
         }
     }
 }

@@ -6,6 +6,7 @@ mod asking;
 mod bench;
 mod calling;
 mod chains;
+mod deadline;
 mod fault;
 mod health;
 mod identity;
@@ -17,19 +18,21 @@ mod quoting;
 mod session;
 mod shell;
 mod tally;
+mod timed;
 mod watch;
 
 use asking::known_chains;
-use calling::{Asker, Shown, explain, shown_for};
+use calling::{Asker, Shown, explain, shown_over};
 use chains::members_of;
 use craq_cli::{
     CallLine, CommandFault, Request, Task, VerbLine, has_raw_bytes, raw_words_of, report_failure,
     report_memory, report_no_text, report_words, words_of,
 };
 use craq_names::{ChainId, NodeId};
+use deadline::Deadline;
 use fault::{Fault, REFUSED};
 use identity::default_address;
-use link::{Failure, Link};
+use link::Link;
 use people::{Setting, run_verb};
 use shell::Terminals;
 use std::env::Env;
@@ -46,11 +49,16 @@ use watch::Watched;
 
 /// Asks once, and prints the answer with its pass on a line of its own, or the refusal. Returns the
 /// status.
-fn ask_once<R>(rt: &R, asker: &Asker<'_>, request: &Request) -> Result<u8, Fault>
+fn ask_once<R>(
+    rt: &R,
+    link: &mut Link<'_>,
+    asker: &Asker<'_>,
+    request: &Request,
+) -> Result<u8, Fault>
 where
-    R: AllocGlobal + Print + Eprint + Net<Listener = TcpListener, Stream = TcpStream>,
+    R: AllocGlobal + Print + Eprint + Clock + Net<Listener = TcpListener, Stream = TcpStream>,
 {
-    let shown = shown_for(rt, asker, request)?;
+    let shown = shown_over(rt, link, asker, request)?;
     let status = print_shown(rt, &shown)?;
     explain(rt, &shown)?;
     Ok(status)
@@ -80,11 +88,7 @@ where
     if let Some(node) = node {
         return Ok(node);
     }
-    let chains = match known_chains(rt, link) {
-        Ok(chains) => chains,
-        Err(Failure::Memory) => return Err(Fault::Memory),
-        Err(_) => return Err(Fault::Connection),
-    };
+    let chains = known_chains(rt, link, Deadline::begin(rt)?)?;
     match members_of(chains.as_slice(), ChainId::new(0)) {
         Ok([head, ..]) => Ok(*head),
         _ => Err(Fault::Connection),
@@ -131,7 +135,7 @@ where
         pass: line.pass,
     };
     match &line.task {
-        Task::Ask(request) => ask_once(&rt, &asker, request),
+        Task::Ask(request) => ask_once(&rt, &mut link, &asker, request),
         Task::Bench(load) => bench::bench(rt, &asker, load, terminals.errors),
         _ => shell::shell(&rt, link, &asker, terminals),
     }

@@ -3,6 +3,7 @@
 use crate::asking::{Target, Unanswered, answered, known_chains};
 use crate::calling::message_in;
 use crate::chains::id_of_name;
+use crate::deadline::Deadline;
 use crate::fault::{Fault, NO_CONNECTION, REFUSED};
 use crate::health::times;
 use crate::identity::{client_id, nanoseconds};
@@ -52,11 +53,12 @@ pub struct Setting {
     pub reads_input: bool,
 }
 
-/// A verb: its line, and the bytes of its words.
+/// A verb: its line, the bytes of its words, and the time at which it is given up.
 #[derive(Clone, Copy)]
 struct Words<'b> {
     line: &'b VerbLine<'b>,
     bytes: &'b [&'b [u8]],
+    deadline: Deadline,
 }
 
 /// The reason that nothing is asked.
@@ -212,9 +214,8 @@ fn report_failure<R: AllocGlobal + Eprint>(
         Failure::NoClock => return Err(Fault::System),
         Failure::Refused(refusal) => return report_refused(rt, refusal),
         Failure::Unsent => format!(in rt.alloc(); "no server answers at {address}")?,
-        Failure::Broken => {
-            format!(in rt.alloc(); "the connection to {address} broke, or no reply came in time")?
-        }
+        Failure::Broken => format!(in rt.alloc(); "the connection to {address} broke")?,
+        Failure::Late => format!(in rt.alloc(); "no reply came from {address} in time")?,
         Failure::NoReply => format!(in rt.alloc(); "what came from {address} is no reply")?,
     };
     tell(rt, text.as_str())?;
@@ -409,8 +410,14 @@ fn show<R: AllocGlobal + Print + Eprint>(
 }
 
 /// Returns the target of a verb's requests.
-fn target_of<R: Clock>(rt: &R, setting: &Setting, chain: ChainId) -> Result<Target, Fault> {
+fn target_of<R: Clock>(
+    rt: &R,
+    setting: &Setting,
+    words: Words<'_>,
+    chain: ChainId,
+) -> Result<Target, Fault> {
     Ok(Target {
+        deadline: words.deadline,
         pass: setting.pass,
         chain,
         pinned: setting.node,
@@ -435,7 +442,7 @@ where
         client: 0,
         number: 1,
     };
-    let mut target = target_of(rt, setting, chain)?;
+    let mut target = target_of(rt, setting, words, chain)?;
     let request = request_of(rt.alloc(), words, chain, named)?;
     let asked = answered(rt, link, &mut target, &request);
     drop(request);
@@ -475,7 +482,7 @@ where
     R: Net<Listener = TcpListener, Stream = TcpStream>,
 {
     let (chain, named) = update;
-    let mut target = target_of(rt, setting, chain)?;
+    let mut target = target_of(rt, setting, words, chain)?;
     let request = request_of(rt.alloc(), words, chain, named)?;
     let asked = answered(rt, link, &mut target, &request);
     drop(request);
@@ -548,21 +555,16 @@ where
 }
 
 /// Prints the chains and their members. Returns the status.
-fn members<R>(
-    rt: &R,
-    link: &mut Link<'_>,
-    setting: &Setting,
-    line: &VerbLine<'_>,
-) -> Result<u8, Fault>
+fn members<R>(rt: &R, link: &mut Link<'_>, setting: &Setting, words: Words<'_>) -> Result<u8, Fault>
 where
     R: AllocGlobal + Print + Eprint + Clock + Wait,
     R: Net<Listener = TcpListener, Stream = TcpStream>,
 {
-    let chains = match known_chains(rt, link) {
+    let chains = match known_chains(rt, link, words.deadline) {
         Ok(chains) => chains,
         Err(failure) => return report_failure(rt, link, failure),
     };
-    if line.options.is_json {
+    if words.line.options.is_json {
         let members = chains_json(rt.alloc(), chains.as_slice())?;
         print_json(rt, members.as_str(), setting.pass)?;
     } else {
@@ -588,7 +590,7 @@ where
         Some(client) => client,
         None => client_id(rt)?,
     };
-    let mut target = target_of(rt, setting, chain)?;
+    let mut target = target_of(rt, setting, words, chain)?;
     let measured = times(rt, link, &mut target, client);
     setting.pass = target.pass;
     let times = match measured {
@@ -606,17 +608,17 @@ where
 }
 
 /// Returns the chain that the options name, by number or by name.
-fn chain_of<R>(rt: &R, link: &mut Link<'_>, name: Option<&str>) -> Result<ChainId, Failure>
+fn chain_of<R>(rt: &R, link: &mut Link<'_>, words: Words<'_>) -> Result<ChainId, Failure>
 where
     R: AllocGlobal + Clock + Wait + Net<Listener = TcpListener, Stream = TcpStream>,
 {
-    let Some(name) = name else {
+    let Some(name) = words.line.options.chain else {
         return Ok(ChainId::new(0));
     };
     if let Ok(id) = number_up_to(65535, name.as_bytes()) {
         return Ok(ChainId::new(id as u16));
     }
-    let chains = known_chains(rt, link)?;
+    let chains = known_chains(rt, link, words.deadline)?;
     id_of_name(chains.as_slice(), name)
 }
 
@@ -633,9 +635,9 @@ where
     R: Net<Listener = TcpListener, Stream = TcpStream>,
 {
     if kind == Kind::Members {
-        return members(rt, link, setting, words.line);
+        return members(rt, link, setting, words);
     }
-    let chain = match chain_of(rt, link, words.line.options.chain) {
+    let chain = match chain_of(rt, link, words) {
         Ok(chain) => chain,
         Err(failure) => return report_failure(rt, link, failure),
     };
@@ -665,8 +667,8 @@ where
     }
 }
 
-/// Runs a verb for people, and raises the pass of the setting to those of the replies. Returns the
-/// status: 0, or 2 for wrong words, 3 after a refusal, 4 if no server answered, 5 if nothing was
+/// Runs a verb for people, which may take 20 seconds from the moment that its words are read, and
+/// raises the pass of the setting to those of the replies. Returns the status: 0, or 2 for wrong words, 3 after a refusal, 4 if no server answered, 5 if nothing was
 /// written, 6 if the object was never written. Nothing is sent before the words are checked.
 pub fn run_verb<R>(
     rt: &R,
@@ -686,6 +688,7 @@ where
     let words = Words {
         line,
         bytes: bytes.as_slice(),
+        deadline: Deadline::begin(rt)?,
     };
     run_words(rt, link, setting, words)
 }

@@ -1,16 +1,15 @@
 //! The positions of a server's nodes, as its page `/status.json` gives them (`craqd --metrics`); for
 //! `watch`.
 use crate::calling::connection;
+use crate::deadline::Deadline;
 use crate::fault::Fault;
+use crate::timed::TimedStream;
 use serde_json::Value;
 use std::alloc::{AllocError, Global};
 use std::io;
 use std::io::{ErrorKind, Write};
 use std::net::{Net, TcpListener, TcpStream};
-use std::time::Duration;
-
-/// The seconds that the page may take.
-const PATIENCE_SECONDS: u64 = 10;
+use std::time::Clock;
 
 /// The request for the page.
 const REQUEST: &str = "GET /status.json HTTP/1.1\r\nHost: craqd\r\nConnection: close\r\n\r\n";
@@ -50,14 +49,14 @@ impl Positions {
     }
 }
 
-/// Returns the response to a request for the page.
+/// Returns the response to a request for the page, which may take 20 seconds.
 fn response<R>(rt: &R, address: &str) -> Result<String, Fault>
 where
-    R: AllocGlobal + Net<Listener = TcpListener, Stream = TcpStream>,
+    R: AllocGlobal + Clock + Net<Listener = TcpListener, Stream = TcpStream>,
 {
-    let mut stream = connection(rt, address)?;
-    let patience = Some(Duration::from_secs(PATIENCE_SECONDS));
-    if stream.set_read_timeout(patience).is_err() || stream.write_all(REQUEST.as_bytes()).is_err() {
+    let deadline = Deadline::begin(rt)?;
+    let mut stream = TimedStream::new(rt, connection(rt, address, deadline)?, deadline);
+    if stream.write_all(REQUEST.as_bytes()).is_err() {
         return Err(Fault::Connection);
     }
     match io::read_to_string(rt.alloc(), stream) {
@@ -126,7 +125,7 @@ fn lines_of(alloc: Global, page: &Value) -> Result<String, Fault> {
 /// number of entries that it knows to be committed, and that of all its entries.
 pub fn read_positions<R>(rt: &R, address: &str) -> Result<String, Fault>
 where
-    R: AllocGlobal + Net<Listener = TcpListener, Stream = TcpStream>,
+    R: AllocGlobal + Clock + Net<Listener = TcpListener, Stream = TcpStream>,
 {
     let response = response(rt, address)?;
     let Some(body) = body_of(response.as_str()) else {

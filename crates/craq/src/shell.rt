@@ -189,7 +189,7 @@ where
 /// prompt, only if the output takes no text or when out of memory.
 fn ask<R>(rt: &R, open: &mut Open<'_>, words: &[&str]) -> Result<(), Fault>
 where
-    R: AllocGlobal + Print + Eprint + Net<Listener = TcpListener, Stream = TcpStream>,
+    R: AllocGlobal + Print + Eprint + Clock + Net<Listener = TcpListener, Stream = TcpStream>,
 {
     match request_of(rt.alloc(), open.session.asker().node, words) {
         Ok(request) => ask_for(rt, open, &request),
@@ -201,7 +201,7 @@ where
 /// Sends a request, and prints the answer, or that there is no connection.
 fn ask_for<R>(rt: &R, open: &mut Open<'_>, request: &Request) -> Result<(), Fault>
 where
-    R: AllocGlobal + Print + Eprint + Net<Listener = TcpListener, Stream = TcpStream>,
+    R: AllocGlobal + Print + Eprint + Clock + Net<Listener = TcpListener, Stream = TcpStream>,
 {
     let asker = open.session.asker();
     match shown_over(rt, &mut open.link, &asker, request) {

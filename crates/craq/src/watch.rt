@@ -24,7 +24,7 @@ pub enum Watched<'a> {
 /// Asks the server for its status. Returns it as a line.
 fn status<R>(rt: &R, address: &str) -> Result<String, Fault>
 where
-    R: AllocGlobal + Net<Listener = TcpListener, Stream = TcpStream>,
+    R: AllocGlobal + Clock + Net<Listener = TcpListener, Stream = TcpStream>,
 {
     match reply_to(rt, address, &ClientMessage::Status)? {
         ClientReply::Status(status) => {
@@ -38,7 +38,7 @@ where
 /// Returns the lines of what is watched.
 fn seen<R>(rt: &R, watched: Watched<'_>) -> Result<String, Fault>
 where
-    R: AllocGlobal + Net<Listener = TcpListener, Stream = TcpStream>,
+    R: AllocGlobal + Clock + Net<Listener = TcpListener, Stream = TcpStream>,
 {
     match watched {
         Watched::Status(address) => status(rt, address),

@@ -12,17 +12,24 @@ import sys
 import tempfile
 import threading
 import time
+from concurrent.futures import ThreadPoolExecutor
 
 from jilsdau import (BadReply, Chain, Client, Open, Read, Refused, Stale, Written, client, command, identity,
                      wire)
 from jilsdau.client import TRIES
-from jilsdau.connection import Connection
+from jilsdau.connection import Connection, Deadline
 from jilsdau.numbers import Numbers
 from jilsdau.wire import Unread, number, value_bytes
 
 PATIENCE = 20
 ID = 77
+# In place of a reply the mock server does one of these. Between two bytes of a slow one lie SLOWNESS
+# seconds.
 CLOSES = None
+SILENT, HALF, SLOW = "says nothing", "sends half a reply", "sends a reply byte by byte"
+SLOWNESS = 0.1
+# The seconds of a try and of all tries, where a server does not answer.
+A_TRY, ALL_TRIES = 1, 3
 
 
 # Replies of the mock server.
@@ -46,7 +53,7 @@ def refused(what, detail=0):
 
 
 class Played:
-    """A mock server that sends one reply per request; for CLOSES it closes the connection.
+    """A mock server that sends one reply per request, or does what stands in its place.
 
     It serves each connection in a thread; what is asked and replied is one sequence.
     """
@@ -83,8 +90,19 @@ class Played:
             reply = self.replies.pop(0)
             if reply is CLOSES:
                 return
-            connection.send(reply)
+            if reply in (HALF, SLOW):
+                self.send_slowly(connection, reply)
+            elif reply is not SILENT:
+                connection.send(reply)
         connection.receive()
+
+    @staticmethod
+    def send_slowly(connection, how):
+        """Sends half of a reply, or all of it byte by byte."""
+        frame = number(4, len(written(5, 1))) + written(5, 1)
+        for byte in frame[:len(frame) // 2] if how is HALF else frame:
+            connection.socket.sendall(bytes([byte]))
+            time.sleep(SLOWNESS if how is SLOW else 0)
 
 
 class Asked:
@@ -240,6 +258,42 @@ def tries(checks):
         checks.same("no server for a read", fault_of(store.get, "k"), "NoConnection")
 
 
+def given_up(server, call, *words, **more):
+    """Returns the name of what a call of a client with short limits raises, its seconds, and the
+    numbers of its requests that are none for the status."""
+    with server, store_of(server, patience=A_TRY, deadline=ALL_TRIES) as store:
+        began = time.monotonic()
+        fault = fault_of(getattr(store, call), *words, **more)
+        return (fault, time.monotonic() - began,
+                [it.number for it in server.asked if it.kind != wire.STATUS])
+
+
+def deadlines(checks):
+    """A try ends after its seconds, and a request after its own, whatever the server does."""
+    cases = [(what, *call) for what in (SILENT, HALF, SLOW)
+             for call in (("set", ("k", b"a"), "Open"), ("get", ("k",), "TimeoutError"))]
+    with ThreadPoolExecutor(len(cases) + 1) as pool:
+        ran = [pool.submit(given_up, Played(*[status(1), what] * 9), call, *words)
+               for what, call, words, _ in cases]
+        once = pool.submit(given_up, Played(SILENT), "set", "k", b"a", node=1)
+        for (what, call, _, wanted), it in zip(cases, ran):
+            fault, seconds, numbers = it.result()
+            checks.same(f"a {call} at a server that {what}", fault, wanted)
+            checks.that(2 * A_TRY < seconds < 2 * ALL_TRIES, f"its seconds: {seconds:.2f}")
+            checks.that(len(numbers) >= 2 and len(set(numbers)) == 1,
+                        f"its tries have one number: {numbers}")
+        fault, seconds, numbers = once.result()
+        checks.same("a write at a named node that says nothing", (fault, len(numbers)), ("Open", 1))
+        checks.that(A_TRY <= seconds < ALL_TRIES, f"its seconds: {seconds:.2f}")
+    with Played(SILENT) as server, store_of(server, patience=A_TRY, deadline=ALL_TRIES,
+                                            connections=1) as store:
+        with store.pool.connection(Deadline(PATIENCE)):
+            checks.same("a read for which no connection is free", fault_of(store.get, "k"), "NoConnection")
+        checks.same("what is sent then", server.asked, [])
+    with Client("127.0.0.1:1", client=ID) as store:
+        checks.same("the seconds of a try and of a request", (store.patience, store.deadline), (10, 20))
+
+
 def passes(checks):
     """The largest pass received is sent; a status and a refusal have none."""
     said = [status(1), written(50, 1), read(40, 1, b"a"), refused(15), status(1), written(60, 2),
@@ -293,7 +347,7 @@ def several(checks):
 
 def stale_numbers(checks):
     """A number that is given may be stale. A new one that is stale at its first try is exchanged
-    for a larger one."""
+    for a larger one, seven times."""
     stale = b"\x01\x01" + number(8, 4) + b"\x09" + number(8, 2 ** 62)
     with Played(status(1), stale, stale, written(5, 1), CLOSES, status(1),
                 stale) as server, store_of(server) as store:
@@ -301,6 +355,9 @@ def stale_numbers(checks):
         checks.same("a new one", store.set("k", b"a"), Written(1))
         checks.same("the number after it", updates_of(server)[-1].number, 2 ** 62 + 1)
         checks.same("a stale one whose first reply was lost", fault_of(store.set, "k", b"a"), "Open")
+    with Played(status(1), *[stale] * 9) as server, store_of(server) as store:
+        checks.same("numbers that are all stale", store.set("k", b"a"), Stale(2 ** 62))
+        checks.same("how many they are", len({it.number for it in updates_of(server)}), 8)
 
 
 def threads(checks):
@@ -475,8 +532,8 @@ def left_open(checks):
             checks.that("may have been done" not in ran(server, *words)[2], f"{words} is not left open")
 
 
-PARTS = (numbers, lost_replies, passing_refusals, lasting_refusals, bad_words, named_nodes, tries, passes,
-         bad_replies, several, stale_numbers,
+PARTS = (numbers, lost_replies, passing_refusals, lasting_refusals, bad_words, named_nodes, tries, deadlines,
+         passes, bad_replies, several, stale_numbers,
          threads, members, health, defaults, commands, left_open)
 
 

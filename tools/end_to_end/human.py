@@ -276,8 +276,8 @@ def lost(checks, server, craq, home):
     address = giving([""])
     words = ["--connect", address, "--node", "1", "set", "lost", "it's"]
     status, out, err = ran([craq, "--client", "6", *words], env)
-    again = re.fullmatch("craq: the connection to .* broke, or no reply came in time\ncraq: it may have been done. "
-                         "This asks it again, and it is done once:\n  (craq .*)\n", err)
+    again = re.fullmatch("craq: the connection to .* broke\ncraq: it may have been done. This asks it again, and it is "
+                         "done once:\n  (craq .*)\n", err)
     checks.that((status, out) == (4, b"") and again, f"a lost reply: {status} {out} {err!r}")
     if not again:
         return

@@ -10,8 +10,8 @@ import sys
 import time
 
 from tools.checks import Checks
-from tools.end_to_end import (bad_input, clients, commands, control, endings, faults, human, limits, metrics, peers,
-                              prompts, running, signals)
+from tools.end_to_end import (bad_input, clients, commands, control, endings, faults, human, late, limits, metrics,
+                              peers, prompts, running, signals)
 from tools.sockets import free_port
 
 CONNECTIONS, GARBAGE, WAITING = 1_600, 1_000, 20
@@ -89,6 +89,7 @@ def main():
     checks.part("signals", signals.tried, craqd)
     checks.part("craq as a prompt", prompts.all_of, craqd, craq)
     checks.part("craq's verbs for people", human.all_of, craqd, craq, nowhere)
+    checks.part("servers that do not answer", late.tried, craqd, craq)
     checks.part("a server", served, craqd, craq)
     print(f"end to end: {checks.passed} passed, {checks.failed} failed, in {time.time() - began:.0f} s")
     return 1 if checks.failed else 0

@@ -30,10 +30,14 @@ def machine():
     return f"{os.cpu_count()} processors ({models[0] if models else 'unknown'})"
 
 
+def day():
+    """Returns the date of today."""
+    return time.strftime("%Y-%m-%d", time.gmtime())
+
+
 def heading():
     """Returns the line above results: the day, the commit and the machine, with its load average."""
-    day = time.strftime("%Y-%m-%d", time.gmtime())
-    return f"{day}: commit {commit()}, {machine()}, load average {os.getloadavg()[0]:.1f}"
+    return f"{day()}: commit {commit()}, {machine()}, load average {os.getloadavg()[0]:.1f}"
 
 
 def main():

@@ -11,7 +11,8 @@ from tools.sockets import free_port
 
 # The environment that ./serve gives craqd, unless it is set.
 AS_SERVED = {"GLIBC_TUNABLES": "glibc.malloc.tcache_count=2000:glibc.malloc.mmap_threshold=33554432:"
-                               "glibc.malloc.trim_threshold=268435456"}
+                               "glibc.malloc.trim_threshold=268435456:glibc.malloc.arena_max=1:"
+                               "glibc.malloc.hugetlb=1"}
 # Seconds for a server to listen.
 PATIENCE = 10
 TICKS = os.sysconf("SC_CLK_TCK")

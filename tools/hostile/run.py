@@ -1,7 +1,7 @@
 """Uses the programs as nobody should, and looks whether they lose anything.
 
-    tools/hostile/run [--only PART ..] [--minutes M] [--note] [--calls PROGRAM] [--stress PROGRAM]
-        CRAQ_LAB CRAQD
+    tools/hostile/run [--only PART ..] [--minutes M] [--note [--unproved]] [--calls PROGRAM]
+        [--stress PROGRAM] CRAQ_LAB CRAQD
 
 The programs are those that the gate or ./build made; ./hostile runs this with them, ./test its
 parts stops, memory and calls. The soak is run where --minutes says how long. A craqd serves in each
@@ -33,7 +33,8 @@ head of its file:
 
 What is found wrong is told on standard error. The last line is 'N passed, M failed', and the status
 1 where M is not 0. With --note what each part tried is written into tools/pages/hostile.tsv and
-docs/proof/TESTED.md, as tried of the programs of the present commit.
+docs/proof/TESTED.md, as tried of the programs of the present commit. With --unproved the page says
+that these programs were built without proofs.
 """
 import argparse
 import os
@@ -78,6 +79,7 @@ def asked_for():
     reader.add_argument("--only", action="append", default=[])
     reader.add_argument("--minutes", type=float, default=0)
     reader.add_argument("--note", action="store_true")
+    reader.add_argument("--unproved", action="store_true")
     reader.add_argument("--calls", type=os.path.realpath)
     reader.add_argument("--stress", type=os.path.realpath)
     reader.add_argument("craq_lab", type=os.path.realpath)
@@ -104,7 +106,7 @@ def main():
         rows[name] = passed, failed, seconds, told
         print(f"{name}: {told}; {passed} passed, {failed} failed, {seconds} s", flush=True)
     if asked.note:
-        figures.note(rows)
+        figures.note(rows, asked.unproved)
     print(f"{checks.passed} passed, {checks.failed} failed")
     return 1 if checks.failed else 0
 

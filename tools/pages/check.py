@@ -15,13 +15,12 @@
 - options: docs/use/SERVER.md has craqd's options of craq_cli/src/server.rt and options.rt
 - lists: docs/develop/CHANGING.md lists each file that names the newest command, message or refusal
 - the walk: each function that docs/develop/ARCHITECTURE.md names from socket to socket is in the
-  crate beside it
+  crate beside it; docs/develop/OPEN.md has the number of these crates
 - diagrams: those of docs/diagrams are drawn from their data, and name what is in the sources
 - pictures of runs: those of docs/pictures have no small text, and no label over an arrow or another
 - threads: each function and type that docs/develop/THREADS.md names is in the crate beside it, or
   in some crate
-- figures: the table of README.md is what tools.pages.speed writes from benchmarks/server/RESULTS.md;
-  each other figure of README.md is in that file
+- figures: each figure of README.md that is not generated is in benchmarks/server/RESULTS.md
 - limits: the table of docs/use/GUARANTEES.md has the numbers of the constants and definitions;
   docs/develop/MESSAGES.md has those of messages between nodes, and its worked bytes are those of
   craq_part_tests/src/links.rt
@@ -29,7 +28,7 @@
 - blocks: a command with '$' before it stands in a block that tools/pages/try runs
 - the surface: each public call and type of tools/pages/surface.txt is in the sources, with its signature
 - the embedded store: docs/use/EMBEDDING.md shows parts of the program of crates/craq_embedding, in
-  their order; its line of crates.txt; its output
+  their order; its line of crates.txt; its output; the number of its lines
 - the promise: README.md and docs/proof/PROMISE.md have it word for word, as it is specified
 - definitions: what PROMISE and RECOVERY of docs/proof quote is in the sources; PROMISE and
   each other page that tells it has the lines of definitions that the theorem reaches, and no other
@@ -40,9 +39,9 @@
 - measures: each measured number of a page is in a file of results of benchmarks/, which names its
   day, its commit and its machine (tools/pages/measures.py)
 - constants: the numbers that pages give for constants of the code, by tools/pages/constants.tsv
-- generated pages: DEFINITIONS, MUTANTS, PROVED and TESTED of docs/proof are what
-  tools/pages/generate writes; each edit and each crate has a claim of at most 25 words, each claim
-  its functions
+- generated pages: DEFINITIONS, MUTANTS, PROVED and TESTED of docs/proof, the budget of
+  docs/develop/CHANGING.md and the figures of README.md are what tools/pages/generate writes; each
+  edit and each crate has a claim of at most 25 words, each claim its functions
 """
 import os
 import re
@@ -58,7 +57,6 @@ from tools.pages.links import links
 from tools.pages.measures import measures
 from tools.pages.runs import pictures_of_runs
 from tools.pages.sizes import sizes
-from tools.pages.speed import speed
 from tools.pages.surface import surface
 
 TOP = repository.TOP
@@ -321,6 +319,9 @@ def walk(checks):
     checks.that(len(named) > 30, f"{page}: the functions from socket to socket were not found")
     for function, crate in named:
         checks.that(is_in(function, sources_of([crate])), f"{page} names {function}, which {crate} has not")
+    count = len({crate for _, crate in named})
+    checks.that(f"passes {count} crates" in text_of("docs/develop/OPEN.md"),
+                f"docs/develop/OPEN.md has to say that a put passes {count} crates")
 
 
 # Limits.
@@ -431,14 +432,13 @@ def measured(text):
 
 
 def figures(checks):
-    """Compares each number of README's section on speed with the results. Its table is written by
-    tools.pages.speed."""
+    """Compares each number of README's section on speed with the results. Those between its marks are
+    generated."""
     result = text_of("benchmarks/server/RESULTS.md")
-    speed(checks)
     part = section(text_of("README.md"), "Speed")
     all_measured = {it for row in rows(result) for it in row}
     for number in re.findall(r"\b(?:[0-9]+\.[0-9]{2}|[0-9]+(?:,[0-9]{3})+)\b",
-                             re.sub(r"^\|.*$", "", part, flags=re.M)):
+                             re.sub(r"<!-- speed -->.*<!-- end of speed -->", "", part, flags=re.S)):
         checks.that(number in all_measured,
                     f"README.md, its figures: {number}, which benchmarks/server/RESULTS.md has not")
 
@@ -472,6 +472,8 @@ def embedded(checks):
         checks.that(f"```text\n{text}```\n" in page,
                     f"docs/use/EMBEDDING.md shows another {what} than that of {crate}")
     rest = text_of(f"{crate}/src/main.rt")
+    count = rest.count("\n")
+    checks.that(f"({count} lines)" in page, f"docs/use/EMBEDDING.md has to give {crate} {count} lines")
     parts = re.findall(r"^```rust\n(.*?)^```$", page, re.M | re.S)
     checks.that(len(parts) > 2, "docs/use/EMBEDDING.md: its parts of the program were not found")
     for part in parts:

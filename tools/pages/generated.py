@@ -1,5 +1,6 @@
 """Writes the pages that are generated, DEFINITIONS.md, MUTANTS.md, PROVED.md and TESTED.md of
-docs/proof, and puts the rows of tools/pages/mutants.tsv in the order of the crates.
+docs/proof, the budget of docs/develop/CHANGING.md (budget.py) and the figures of README.md (speed.py).
+Puts the rows of tools/pages/mutants.tsv in the order of the crates.
 
     tools/pages/generate     prints the path of each file that it changed
 
@@ -22,7 +23,7 @@ import re
 import sys
 
 from tools import mutants, repository
-from tools.pages import defined, results
+from tools.pages import budget, defined, results, speed
 from tools.pages.sizes import MOST_IN_CELL, words
 from tools.pages.tables import filled, layers, stored, table, wrapped
 
@@ -147,7 +148,8 @@ def texts():
     """Returns the text of each generated file, by path."""
     return {mutants.TABLE: mutants.text_of(mutants.mutants()), "docs/proof/MUTANTS.md": mutants_page(),
             "docs/proof/PROVED.md": proved_page(), "docs/proof/DEFINITIONS.md": defined.page(),
-            "docs/proof/TESTED.md": filled("tested.md", {"results": results.results()})}
+            "docs/proof/TESTED.md": filled("tested.md", {"results": results.results()}),
+            budget.PAGE: budget.page(), speed.PAGE: speed.page()}
 
 
 def write():
@@ -215,6 +217,7 @@ def generated(checks):
     claims_of_crates(checks)
     defined.check(checks)
     templates(checks)
+    budget.costs(checks)
     for path, text in texts().items():
         checks.that(repository.text_of(path) == text, f"{path} is not what tools/pages/generate writes")
 

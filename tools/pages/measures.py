@@ -14,7 +14,8 @@ HEADING = re.compile(r"\d{4}-\d\d-\d\d: .*")
 OF_COMMITS = ("benchmarks/server/CHANGES.md", "docs/develop/CHANGELOG.md")
 NUMBER = r"(?<![\w.,-])(\d+(?:,\d{3})*(?:\.\d+)?)"
 UNITS = (r"(?:µs|ns|nanoseconds|microseconds|(?:puts|gets|reads|strong reads|replies|requests) a second|"
-         r"(?:times )?of redis|times redis|times that of redis|bytes an? (?:object|key)|MB a second|"
+         r"(?:times )?of redis|times (?:redis|that|for an?|as (?:many|long))|"
+         r"bytes an? (?:object|key|client)|MB a second|"
          r"% of a core)(?!\w)")
 BOUND = re.compile(r"(?:at most|at least|below|within|aim of)\s+$")
 

@@ -5,7 +5,7 @@ import re
 from tools.pages.tables import stored, table, wrapped
 
 TABLE = "hostile.tsv"
-HEAD = ("part", "commit", "date", "processors", "passed", "failed", "seconds", "tried")
+HEAD = ("part", "commit", "programs", "date", "processors", "passed", "failed", "seconds", "tried")
 
 
 def grouped(text):
@@ -20,10 +20,10 @@ def indented(text):
 
 def results():
     """Returns a table with a row for each part, and under it what each part tried."""
-    rows, head = [], ("Part", "Commit", "Date", "Processors", "Passed", "Failed", "Seconds")
+    rows, head = [], ("Part", "Commit", "Programs", "Date", "Processors", "Passed", "Failed", "Seconds")
     tried = []
-    for part, commit, date, processors, passed, failed, seconds, told in stored(TABLE):
-        rows.append((f"`{part}`", commit, date, processors, grouped(passed), failed, seconds))
+    for part, commit, programs, date, processors, passed, failed, seconds, told in stored(TABLE):
+        rows.append((f"`{part}`", commit, programs, date, processors, grouped(passed), failed, seconds))
         pieces = grouped(told).split("; ")
         tried.append("\n".join([f"**`{part}`**", "", *map(indented, pieces)]))
     return "\n\n".join([table(head, rows), *tried])

@@ -34,7 +34,7 @@ GENERATED = {
     "docs/proof/PROVED.md": 4_200,
     "docs/proof/TESTED.md": 2_500,
 }
-RESULTS = ("benchmarks/*/RESULTS.md",)
+RESULTS = ("benchmarks/*/RESULTS.md", "benchmarks/server/PROFILE.md")
 
 
 def without_blocks(text):

@@ -1,22 +1,23 @@
-"""Writes the figures of README.md from benchmarks/server/RESULTS.md: its table, and the picture
-docs/diagrams/speed.svg.
+"""Makes the figures of README.md from benchmarks/server/RESULTS.md: its table, the sentences below it
+on what is slowest, and the picture docs/diagrams/speed.svg.
 
-    tools/python tools.pages.speed --write       puts the table between the marks of README.md
-
-The picture is drawn with the others, by tools/python tools.pages.diagrams --write. Both have the
-mixes and the servers of docs/diagrams/speed.toml that were measured, with the first number of keys
-and of connections of the results.
+tools/pages/generate puts table and sentences between the marks of README.md. The picture is drawn with
+the others, by tools/python tools.pages.diagrams --write. Table and picture have the mixes and the
+servers of docs/diagrams/speed.toml that were measured, with the first number of keys and of
+connections of the results.
 """
 import re
-import sys
 import tomllib
 
 from tools import repository
 from tools.pages.canvas import EDGE, Canvas, Rect, pieces_of
+from tools.pages.tables import wrapped
 
 RESULTS, PAGE, DATA = "benchmarks/server/RESULTS.md", "README.md", "docs/diagrams/speed.toml"
 BEGIN, END = "<!-- speed -->\n", "<!-- end of speed -->\n"
-BESIDE = "redis"
+BESIDE, FASTEST, PUTS = "redis", "craqd --threads 2", "puts at the head"
+# The numbers of keys and the rate of puts that the sentences name.
+MANY, FEW, RATE_DUE = "1,000,000", "50", "20,000"
 RATE, TIME, RATIO = "A second", "Processor time a reply, µs", "Times redis"
 # The picture: for replies a second and for processor time the left end of the bars, and the length
 # of the longest.
@@ -24,15 +25,22 @@ BARS = ((RATE, 140, 330), (TIME, 560, 170))
 ROW, BAR, GROUP = 18, 12, 26
 
 
+def tables():
+    """Returns the heading of the results, and the rows of each of their tables by column."""
+    text = repository.text_of(RESULTS)
+    found = []
+    for it in re.findall(r"(?:^\|.*\n)+", text, re.M):
+        titles, _, *lines = it.splitlines()
+        found.append([dict(zip(cells(titles), cells(line))) for line in lines])
+    return text.partition("\n")[0], found
+
+
 def results():
     """Returns the heading of the results, and the rows of their first table by mix and server: those
     of the first number of keys and of connections."""
-    text = repository.text_of(RESULTS)
-    heading = text.partition("\n")[0]
-    titles, _, *lines = re.search(r"(?:^\|.*\n)+", text, re.M)[0].splitlines()
+    heading, (rows, *_) = tables()
     found, first = {}, None
-    for line in lines:
-        row = dict(zip(cells(titles), cells(line)))
+    for row in rows:
         case = row.get("Keys"), row["Connections"]
         first = first or case
         if case == first:
@@ -68,16 +76,31 @@ def block():
     day, _, setting = heading.partition(": ")
     keys = next((f", {it['Keys']} keys" for it in found.values() if "Keys" in it), "")
     below = f"{day}{keys}, {setting} (`{RESULTS}`). *Times {BESIDE}* is of `{servers[0]}`."
-    return f"{table}\n\n{wrapped(below)}\n"
+    return f"{table}\n\n{wrapped(below)}\n\n{wrapped(slowest())}\n"
 
 
-def wrapped(text):
-    lines = [""]
-    for word in text.split(" "):
-        if len(lines[-1]) + len(word) > 99:
-            lines.append("")
-        lines[-1] += (" " if lines[-1] else "") + word
-    return "\n".join(lines)
+def slowest():
+    """Returns the sentences on what the fastest way of serving does worst: puts over many keys, over
+    few, eight together, at a fixed rate, beside memcached, and memory."""
+    _, (closed, opened, memory) = tables()
+    first = results()[1]
+
+    def ratio(mix, keys):
+        return one(closed, {"Asked": mix, "Keys": keys, "Server": FASTEST})[RATIO]
+
+    at_rate = one(opened, {"Due a second": RATE_DUE, "Server": FASTEST})["Processor time, times redis"]
+    puts, others = (number(first[PUTS, it][RATE]) for it in (FASTEST, "memcached"))
+    held, beside = (one(memory, {"Keys": MANY, "Server": it})["Memory, MB"] for it in (FASTEST, BESIDE))
+    return (f"Where `{FASTEST}` is weakest, in this run: puts over {MANY} random keys reach "
+            f"{ratio(PUTS, MANY)} of {BESIDE}, puts over {FEW} keys {ratio(PUTS, FEW)}, eight puts in one "
+            f"request {first['eight puts together', FASTEST][RATIO]}. At {RATE_DUE} puts a second it takes "
+            f"{at_rate} times {BESIDE}' processor time. memcached makes {others / puts:.1f} times its puts. "
+            f"Three replicas of {MANY} objects take {held} MB, {BESIDE}' one copy {beside}.")
+
+
+def one(rows, wanted):
+    """Returns the first row that has these cells."""
+    return next(row for row in rows if wanted.items() <= row.items())
 
 
 def number(text):
@@ -113,24 +136,7 @@ def bar(canvas, found, key, field, left, room, at, y):
     canvas.write((left + round(wide) + 6, y), pieces_of(found[key][field]))
 
 
-def speed(checks):
-    """Compares the figures of README.md with what would be written."""
-    text = repository.text_of(PAGE)
-    told = text.partition(BEGIN)[2].partition(END)[0]
-    checks.that(told == block(), f"{PAGE}: its figures are not what tools.pages.speed --write writes")
-
-
-def main():
-    if sys.argv[1:] != ["--write"]:
-        sys.exit("speed: --write puts the table into README.md")
-    before, begins, rest = repository.text_of(PAGE).partition(BEGIN)
-    _, ends, after = rest.partition(END)
-    if not begins or not ends:
-        sys.exit(f"speed: {PAGE} has no marks")
-    with open(repository.path(PAGE), "w", encoding="utf-8") as it:
-        it.write(before + BEGIN + block() + END + after)
-    return 0
-
-
-if __name__ == "__main__":
-    sys.exit(main())
+def page():
+    """Returns README.md with the figures as they should be."""
+    before, _, rest = repository.text_of(PAGE).partition(BEGIN)
+    return before + BEGIN + block() + END + rest.partition(END)[2]

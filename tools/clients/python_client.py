@@ -279,12 +279,12 @@ def deadlines(checks):
         for (what, call, _, wanted), it in zip(cases, ran):
             fault, seconds, numbers = it.result()
             checks.same(f"a {call} at a server that {what}", fault, wanted)
-            checks.that(2 * A_TRY < seconds < 2 * ALL_TRIES, f"its seconds: {seconds:.2f}")
+            checks.that(2 * A_TRY < seconds < 3 * ALL_TRIES, f"its seconds: {seconds:.2f}")
             checks.that(len(numbers) >= 2 and len(set(numbers)) == 1,
                         f"its tries have one number: {numbers}")
         fault, seconds, numbers = once.result()
         checks.same("a write at a named node that says nothing", (fault, len(numbers)), ("Open", 1))
-        checks.that(A_TRY <= seconds < ALL_TRIES, f"its seconds: {seconds:.2f}")
+        checks.that(A_TRY <= seconds < 2 * ALL_TRIES, f"its seconds: {seconds:.2f}")
     with Played(SILENT) as server, store_of(server, patience=A_TRY, deadline=ALL_TRIES,
                                             connections=1) as store:
         with store.pool.connection(Deadline(PATIENCE)):

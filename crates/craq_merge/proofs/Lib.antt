@@ -12,3 +12,4 @@ pub mod Calls
 pub mod Positions
 pub mod Sorted
 pub mod Audited
+pub mod Senders

@@ -34,14 +34,14 @@ use Rattle.craq_merge.proofs.Good.{AreGood, IsFirst, IsLater, IsStarted}
 use Rattle.craq_merge.proofs.Journals.{Kept, ids_of}
 
 -- a journal's cell
-cell_of : {C : Type 0} (cs : List (Celled C Event)) (ns : List Kept) (n : Kept) → AreJournalsOf cs ns → IsIn ns n → (c : Celled C Event) × IsIn cs c × IsJournalOf c n
+pub cell_of : {C : Type 0} (cs : List (Celled C Event)) (ns : List Kept) (n : Kept) → AreJournalsOf cs ns → IsIn ns n → (c : Celled C Event) × IsIn cs c × IsJournalOf c n
 cell_of [] [] n h i = absurd i
 cell_of (c ∷ cs) [] n h i = absurd h
 cell_of [] (m ∷ ns) n h i = absurd h
 cell_of (c ∷ cs) (m ∷ ns) n h (inl e) = (c, inl refl, subst (IsJournalOf c) e h.0)
 cell_of (c ∷ cs) (m ∷ ns) n h (inr i) = let t = cell_of cs ns n h.1 i in (t.0, inr t.1, t.2)
 
-same_ids : {C : Type 0} (cs : List (Celled C Event)) (ns : List Kept) → AreJournalsOf cs ns → ids_of ns ≡ map id_of cs
+pub same_ids : {C : Type 0} (cs : List (Celled C Event)) (ns : List Kept) → AreJournalsOf cs ns → ids_of ns ≡ map id_of cs
 same_ids [] [] h = refl
 same_ids (c ∷ cs) [] h = absurd h
 same_ids [] (m ∷ ns) h = absurd h
@@ -76,7 +76,7 @@ opened_later chain rs o id e own (config, r, among, event, stamp) = (
   stamp,
 )
 
-started : {C : Type 0} (R : C → Plain → Type 0) (book : Celled Mastered BookEvent) (j : Journals) (c : Celled C Event) (n : Kept) → IsBook book → j.members ≡ members_of book.opening.config → IsKept R c → IsJournalOf c n → c.opening.name.chain ≡ book.opening.name.chain → IsOpenedFirst book c.opening ⊎ IsOpenedLater j.book c.opening → IsStarted book.opening.name.chain j.members j.book n
+pub started : {C : Type 0} (R : C → Plain → Type 0) (book : Celled Mastered BookEvent) (j : Journals) (c : Celled C Event) (n : Kept) → IsBook book → j.members ≡ members_of book.opening.config → IsKept R c → IsJournalOf c n → c.opening.name.chain ≡ book.opening.name.chain → IsOpenedFirst book c.opening ⊎ IsOpenedLater j.book c.opening → IsStarted book.opening.name.chain j.members j.book n
 started R book j c n b members kept own chain opened =
     let o : Opening = c.opening in
     let first : Plain = opening_of o.name o.config in

@@ -19,7 +19,7 @@ ghost use Rattle.craq_runs.specs.declared.explanation.Place.{Place};
 ghost use Rattle.craq_runs.specs.declared.run.Run.{Run};
 ghost use Rattle.craq_seat.specs.declared.journal.BookEvent.{BookEvent};
 ghost use Rattle.craq_seat.specs.declared.journal.Record.{Record};
-ghost use Rattle.craq_seat.specs.Audits.{AreKept, AreOfChain, IsHeld, IsMergedRun};
+ghost use Rattle.craq_seat.specs.Audits.{AreKept, AreOfChain, HasSender, IsHeld, IsMergedRun};
 ghost use Rattle.craq_seat.specs.Books.{IsBook};
 ghost use Rattle.craq_seat.specs.Calls.{Called};
 ghost use Rattle.craq_seat.specs.Cells.{Celled};
@@ -28,7 +28,7 @@ ghost use Rattle.craq_seat.specs.Kept.{IsKept};
 ghost use Rattle.craq_seat.specs.Merge.{IsMerge, Journals, MergedStep, all_lines, book_line, node_line, run_of};
 ghost use Rattle.craq_seat.specs.Stamps.{book_stamp, event_stamp};
 ghost use Rattle.craq_causality.specs.Causal.{AreCausal};
-ghost use Rattle.craq_merge.specs.Merged.{AreSeated, CanBeNumbered};
+ghost use Rattle.craq_merge.specs.Merged.{AreOfLines, AreSeated, CanBeNumbered};
 ghost use Rattle.craq_merge.specs.Sorted.{AreSorted};
 ghost use Rattle.craq_merge.specs.Within.{AreAsksOfType, IsWithin, run_answer_of_call};
 
@@ -78,6 +78,15 @@ pub fn merge_is_a_run<C: Core>()
     ensures typed { (book : Celled Mastered BookEvent) (cells : List (Celled C Event)) (j : Journals) (lines : List MergedStep)
         → AreSeated C.represents book cells j → IsMerge j lines → CanBeNumbered lines → AreAsksOfType j
         → IsTypedRunOf book.opening.name.chain (run_of j.members lines) }
+{}
+
+/// States that each message that arrived was sent, by journals whose lines are in causal order: a
+/// store's history has the lines of its cells in such an order.
+pub fn causal_journals_have_senders<C: Core>()
+    ensures { (book : Celled Mastered BookEvent) (cells : List (Celled C Event)) (j : Journals) (lines : List MergedStep)
+        → IsBook book → AllByRecursion (λ (c : Celled C Event). IsKept C.represents c) cells → AreKept book cells j → AreOfChain book cells j
+        → AreCausal book.opening.name.chain j.members lines → AreOfLines j lines
+        → AllByRecursion (λ (n : ℕ × List (Record Event)). AllByRecursion (HasSender j) n.1) j.nodes }
 {}
 
 /// States that each call whose request and reply are in its node's journal is a request and its

@@ -61,6 +61,7 @@ module _ {C : Type 0} (represents : C → Plain → Type 0) (name : NodeName) (l
         joined = rw u.named joined;
         first = rw u.named first;
         unmoved = u.unmoved;
+        empty = u.empty;
       }
 
   by_members : (o : Option (List ℕ)) → members_in name.chain log ≡ o → ChainHolds name.chain o (lines_in name.chain log) → CanBegin represents log cell

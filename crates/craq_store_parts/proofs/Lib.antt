@@ -5,3 +5,4 @@ pub mod Beginning
 pub mod Joining
 pub mod Sessions
 pub mod Refusing
+pub mod Between

@@ -1,8 +1,11 @@
 -- A desk's step as an entry of the history.
-use Rattle.std.proofs.Common.{◌≡◌, ◌<◌, ℕ, List, [], ◌∷◌, ◌++◌, Option, Some, None, Result, Ok, Err, IfOk, IfSome, refl, sym, ap, subst, ◌∙◌, inl, inr, arith, append-nil, eq-eqb}
+use Rattle.std.proofs.Common.{◌≡◌, ◌<◌, ℕ, ◌==◌, List, [], ◌∷◌, ◌++◌, map, Option, Some, None, Result, Ok, Err, IfOk, IfSome, refl, sym, ap, subst, ◌∙◌, inl, inr, arith, append-nil, eq-eqb}
 use Rattle.std.specs.Prelude.{Contains, Vec}
 use Rattle.std.proofs.lemmas.Bool.{eqb-true}
 use Rattle.std.specs.List.{AllByRecursion}
+use Rattle.std.specs.Option.{option_map}
+use Rattle.std.proofs.lemmas.List.{map-append}
+use Rattle.std.proofs.lemmas.List.Elements.{filter-append}
 use Rattle.std.specs.declared.alloc.AllocError.{AllocError}
 use Rattle.std.specs.declared.alloc.Global.{Global}
 use Rattle.std.specs.declared.snapshot.Snapshot.{Snapshot}
@@ -20,12 +23,14 @@ use Rattle.craq_model.specs.Plain.{Plain}
 use Rattle.craq_seat.specs.declared.calls.Call.{Call}
 use Rattle.craq_seat.specs.declared.journal.Opening.{Opening}
 use Rattle.craq_seat.specs.declared.journal.Receipt.{Receipt}
+use Rattle.craq_seat.specs.declared.journal.Record.{Record}
 use Rattle.craq_seat.specs.Calls.{Called, CallsOf, Desked, accepted, answered_call, ask_of, call_under, called_by, called_in}
 use Rattle.craq_seat.specs.Cells.{Celled, cell_step, receipt_of, recorded, stamped, with_inside, with_record}
 use Rattle.craq_seat.specs.Merge.{AtNode as HappensAtNode, MergedStep, node_line}
 use Rattle.craq_seat.specs.Stamps.{event_stamp, next_stamp}
 use Rattle.craq_seat.specs.Taken.{TakesEvent}
 use Rattle.craq_seat.proofs.Taking.{above}
+use Rattle.craq_causality.specs.Authors.{lines_of}
 use Rattle.craq_causality.specs.Causal.{IsOfType}
 use Rattle.craq_causality.proofs.Orders.{IsIn, from_contains, in_left, in_right, to_contains}
 use Rattle.craq_ghost_history.specs.declared.author.Author.TheVariants.{Node}
@@ -37,9 +42,9 @@ use Rattle.craq_store_history.specs.Chains.{IsHistory}
 use Rattle.craq_store_history.specs.Entries.{author_of, line_in, lines_in, node_record, permit_of}
 use Rattle.craq_store_history.specs.Steps.{MayStep}
 use Rattle.craq_store_history.proofs.Adding.{node_may, node_seen}
-use Rattle.craq_store_history.proofs.Lines.{lines_more}
+use Rattle.craq_store_history.proofs.Lines.{lines_more, own_same}
 use Rattle.craq_store_parts.proofs.Running.{stop_alone}
-use Rattle.craq_store_parts.specs.Recorded.{HasAccepted, HasAnswered, HasStep, HasTaken, HasTakenAfter, HaveReplied, IsRecorded, MayHappen, StandsAfter}
+use Rattle.craq_store_parts.specs.Recorded.{AreLinesOf, HasAccepted, HasAnswered, HasStep, HasTaken, HasTakenAfter, HaveReplied, IsRecorded, MayHappen, StandsAfter}
 
 -- ---- a step that was taken
 
@@ -52,6 +57,8 @@ pub record Took {C : Type 0} (represents : C → Plain → Type 0) (old new : Ce
   pub last : new.last ≡ Some step
   pub later : old.stamp < new.stamp
   pub opening : new.opening ≡ old.opening
+  pub pass : ℕ
+  pub journal : new.journal ≡ option_map (λ rs. rs ++ record { stamp = new.stamp; event = event; pass = pass; step = step } ∷ []) old.journal
 
 pub same_ok : {A E : Type 0} {x y : A} → ◌≡◌ {A = Result A E} (Ok x) (Ok y) → x ≡ y
 same_ok h = cc h
@@ -65,7 +72,18 @@ by_step represents old new p n event pass stamp stands up (Ok (q, s)) t is =
     let stamps : stamp ≡ new.stamp = ap (λ (c : Celled Plain Event). c.stamp) now in
     let last : Some s ≡ new.last = ap (λ (c : Celled Plain Event). c.last) now in
     let opening : old.opening ≡ new.opening = ap (λ (c : Celled Plain Event). c.opening) now in
-    record { next = n; stands = stands; step = s; takes = t ∙ ap (λ (m : Plain). Ok (m, s)) inside; last = sym last; later = subst (λ (k : ℕ). old.stamp < k) stamps up; opening = sym opening }
+    let journal : option_map (λ rs. rs ++ record { stamp = stamp; event = event; pass = pass; step = s } ∷ []) old.journal ≡ new.journal = ap (λ (c : Celled Plain Event). c.journal) now in
+    record {
+      next = n;
+      stands = stands;
+      step = s;
+      takes = t ∙ ap (λ (m : Plain). Ok (m, s)) inside;
+      last = sym last;
+      later = subst (λ (k : ℕ). old.stamp < k) stamps up;
+      opening = sym opening;
+      pass = pass;
+      journal = subst (λ (k : ℕ). new.journal ≡ option_map (λ rs. rs ++ record { stamp = k; event = event; pass = pass; step = s } ∷ []) old.journal) stamps (sym journal);
+    }
 
 by_stamp : {C : Type 0} (represents : C → Plain → Type 0) (old new : Celled C Event) (p n : Plain) (event : Event) (pass : ℕ) → represents new.inside n
     → (r : Result ℕ Refusal) → next_stamp old.stamp pass (event_stamp event) ≡ r → stamped node_step (with_inside old p) event pass r ≡ Ok (with_inside new n) → Took represents old new p event
@@ -86,6 +104,7 @@ pub record Stays {C : Type 0} (represents : C → Plain → Type 0) (old new : C
   pub stamp : new.stamp ≡ old.stamp
   pub last : new.last ≡ old.last
   pub opening : new.opening ≡ old.opening
+  pub journal : new.journal ≡ old.journal
 
 pub stays : {C : Type 0} (represents : C → Plain → Type 0) (old new : Celled C Event) (p : Plain) (event : Event) (pass : ℕ) (e : Refusal) → TakesEvent represents new (with_inside old p) event pass (Err e) → Stays represents old new p
 stays represents old new p event pass e (n, is, stands) =
@@ -94,6 +113,7 @@ stays represents old new p event pass e (n, is, stands) =
       stamp = ap (λ (c : Celled Plain Event). c.stamp) is.1;
       last = ap (λ (c : Celled Plain Event). c.last) is.1;
       opening = ap (λ (c : Celled Plain Event). c.opening) is.1;
+      journal = ap (λ (c : Celled Plain Event). c.journal) is.1;
     }
 
 pub still_recorded : {C : Type 0} (represents : C → Plain → Type 0) (old new : Desked C) (w : Written Entry) (r : IsRecorded represents old w) → Stays represents old.cell new.cell r.node → IsRecorded represents new w
@@ -105,6 +125,7 @@ still_recorded represents old new w r s =
       at = rw (s.opening, s.stamp) r.at;
       last = rw (s.opening, s.stamp, s.last) r.last;
       stopped = rw (s.opening, s.stamp) r.stopped;
+      journal = rw (s.opening, s.journal) r.journal;
     }
 
 -- ---- the step in the history
@@ -125,15 +146,22 @@ stands_in old log e s = in_later (s.0 ++ e ∷ []) log e s.2 (in_last s.0 e)
 pub has_added : (seen reported new : List Entry) (e : Entry) → IsAdded author_of seen reported e new → Contains new e
 has_added seen reported new e a = subst (λ (l : List Entry). Contains l e) (sym a.now) (in_last a.before e)
 
+-- the lines of its chain
+new_lines : (seen reported new : List Entry) (name : NodeName) (stamp : ℕ) (event : Snapshot Event) (pass : ℕ) (step : Snapshot Step) (call : Option CallId)
+    → (a : IsAdded author_of seen reported (AtNode name stamp event pass step call) new) → lines_in name.chain new ≡ lines_in name.chain a.before ++ node_line name.node (node_record stamp event pass step) ∷ []
+new_lines seen reported new name stamp event pass step call a =
+    let c : ℕ = name.chain in
+    let e : Entry = AtNode name stamp event pass step call in
+    let line : line_in c e ≡ node_line name.node (node_record stamp event pass step) ∷ [] = rw (eq-eqb c c refl) refl in
+    ap (lines_in c) a.now ∙ (lines_more c a.before e ∙ ap (λ z. lines_in c a.before ++ z) line)
+
 -- its line
 line_added : (seen reported new : List Entry) (name : NodeName) (stamp : ℕ) (event : Snapshot Event) (pass : ℕ) (step : Snapshot Step) (call : Option CallId)
     → IsAdded author_of seen reported (AtNode name stamp event pass step call) new → Contains (lines_in name.chain new) (node_line name.node (node_record stamp event pass step))
 line_added seen reported new name stamp event pass step call a =
     let c : ℕ = name.chain in
-    let e : Entry = AtNode name stamp event pass step call in
     let l : MergedStep = node_line name.node (node_record stamp event pass step) in
-    let line : line_in c e ≡ l ∷ [] = rw (eq-eqb c c refl) refl in
-    let ls : lines_in c new ≡ lines_in c a.before ++ l ∷ [] = ap (lines_in c) a.now ∙ (lines_more c a.before e ∙ ap (λ z. lines_in c a.before ++ z) line) in
+    let ls = new_lines seen reported new name stamp event pass step call a in
     subst (λ (z : List MergedStep). Contains z l) (sym ls) (to_contains (lines_in c a.before ++ l ∷ []) l (in_right (lines_in c a.before) (l ∷ []) l (inl refl)))
 
 -- the node may take the step, once its cell has
@@ -157,8 +185,31 @@ has_step : (seen reported new : List Entry) (name : NodeName) (stamp : ℕ) (eve
 has_step seen reported new name stamp event pass step call taken a says =
     record { line = node_line name.node (node_record stamp event pass step); there = line_added seen reported new name stamp event pass step call a; node = refl; under = refl; step = says }
 
+-- one more line of an author
+pub lines_same : (id : ℕ) (lines : List MergedStep) (l : MergedStep) → l.node ≡ id → lines_of id (lines ++ l ∷ []) ≡ lines_of id lines ++ l ∷ []
+lines_same id lines l e = filter-append (λ (x : MergedStep). x.node == id) lines (l ∷ []) ∙ rw (eq-eqb l.node id e) refl
+
+-- its journal grows by its line
+journal_grows : (seen reported new : List Entry) (name : NodeName) (stamp : ℕ) (event : Snapshot Event) (pass : ℕ) (step : Snapshot Step) (call : Option CallId) (r : Record Event) (now was : Option (List (Record Event)))
+    → IsAdded author_of seen reported (AtNode name stamp event pass step call) new → node_line name.node (node_record stamp event pass step) ≡ node_line name.node r → now ≡ option_map (λ rs. rs ++ r ∷ []) was → AreLinesOf (lines_in name.chain seen) name.node was → AreLinesOf (lines_in name.chain new) name.node now
+journal_grows seen reported new name stamp event pass step call r now None a same is h = subst (AreLinesOf (lines_in name.chain new) name.node) (sym is) tt
+journal_grows seen reported new name stamp event pass step call r now (Some rs) a same is h =
+    let id : ℕ = name.node in
+    let own : lines_of id (lines_in name.chain a.before) ≡ map (node_line id) rs = own_same name.chain id a.before seen a.own ∙ h in
+    let lines : lines_in name.chain new ≡ lines_in name.chain a.before ++ node_line id r ∷ [] = new_lines seen reported new name stamp event pass step call a ∙ ap (λ l. lines_in name.chain a.before ++ l ∷ []) same in
+    subst (AreLinesOf (lines_in name.chain new) id) (sym is)
+    (ap (lines_of id) lines ∙ (lines_same id (lines_in name.chain a.before) (node_line id r) refl ∙ (ap (λ ls. ls ++ node_line id r ∷ []) own ∙ sym (map-append (node_line id) rs (r ∷ [])))))
+
 some_last : (o : Option Step) (s : Step) (P : Step → Type 0) → o ≡ Some s → P s → IfSome o P
 some_last o s P is h = subst (λ (x : Option Step). IfSome x P) (sym is) h
+
+-- it stays in more lines
+pub line_later : (xs ys : List MergedStep) (l : MergedStep) → IsPrefix xs ys → Contains xs l → Contains ys l
+line_later xs ys l p there = subst (λ (zs : List MergedStep). Contains zs l) p.1 (to_contains (xs ++ p.0) l (in_left xs p.0 l (from_contains xs l there)))
+
+pub last_later : (xs ys : List MergedStep) (id stamp : ℕ) (o : Option Step) → IsPrefix xs ys → IfSome o (λ (s : Step). HasStep xs id stamp s) → IfSome o (λ (s : Step). HasStep ys id stamp s)
+last_later xs ys id stamp None p h = tt
+last_later xs ys id stamp (Some s) p h = record { line = h.line; there = line_later xs ys h.line p h.there; node = h.node; under = h.under; step = h.step }
 
 -- so the node is the replay of its entries
 pub now_recorded : {C : Type 0} (represents : C → Plain → Type 0) (old new : Desked C) (w v : Written Entry) (reported : List Entry) (event : Event) (noted : Snapshot Event) (pass : ℕ) (step : Snapshot Step) (call : Option CallId) (r : IsRecorded represents old w) (t : Took represents old.cell new.cell r.node event)
@@ -179,6 +230,9 @@ now_recorded represents old new w v reported event noted pass step call r t is s
           let stop : noted.value ≡ events.Stop = is ∙ stop_alone r.node t.next event t.step t.takes off in
           let l : MergedStep = node_line name.node (node_record stamp noted pass step) in
           rw own (l, line_added w.seen reported v.seen name stamp noted pass step call a, refl, refl, ap HappensAtNode stop);
+      journal =
+          let taken : Record Event = record { stamp = stamp; event = event; pass = t.pass; step = t.step } in
+          rw own (journal_grows w.seen reported v.seen name stamp noted pass step call taken new.cell.journal old.cell.journal a (rw (is, says) refl) t.journal r.journal);
     }
 
 -- ---- an entry whose name and stamp were read from the cell after the step

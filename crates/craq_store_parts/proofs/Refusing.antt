@@ -12,6 +12,7 @@ use Rattle.craq_model.specs.declared.step.Step.{Step}
 use Rattle.craq_model.specs.Node.{node_step}
 use Rattle.craq_model.specs.Plain.{Plain}
 use Rattle.craq_seat.specs.declared.journal.Receipt.{Receipt}
+use Rattle.craq_seat.specs.declared.journal.Record.{Record}
 use Rattle.craq_seat.specs.Calls.{Desked}
 use Rattle.craq_seat.specs.Cells.{Celled, cell_step, receipt_of, recorded, stamped, with_inside}
 use Rattle.craq_seat.specs.Merge.{MergedStep}
@@ -31,19 +32,12 @@ use Rattle.craq_store_history.specs.Chains.{Accepts, WasCalled}
 use Rattle.craq_store_history.specs.Entries.{author_of, lines_in}
 use Rattle.craq_store_history.specs.Steps.{IsNodeAt}
 use Rattle.craq_store_history.proofs.Lines.{lines_prefix, members_prefix, own_same}
-use Rattle.craq_store_parts.specs.Recorded.{HasStep, IsRecorded, MayHappen}
+use Rattle.craq_store_parts.specs.Recorded.{AreLinesOf, HasStep, IsRecorded, MayHappen}
 use Rattle.craq_store_parts.specs.Sent.{Following, MadeCall, made_in}
 use Rattle.craq_store_parts.specs.Witnessed.{HasRefusedCall, RefusesAt, RefusesEvent}
-use Rattle.craq_store_parts.proofs.Recording.{Stays, in_later, stays, still_recorded}
+use Rattle.craq_store_parts.proofs.Recording.{Stays, in_later, last_later, line_later, stays, still_recorded}
 
 -- ---- a node that sees more has the same steps
-
-line_later : (xs ys : List MergedStep) (l : MergedStep) → IsPrefix xs ys → Contains xs l → Contains ys l
-line_later xs ys l p there = subst (λ (zs : List MergedStep). Contains zs l) p.1 (to_contains (xs ++ p.0) l (in_left xs p.0 l (from_contains xs l there)))
-
-last_later : (xs ys : List MergedStep) (id stamp : ℕ) (o : Option Step) → IsPrefix xs ys → IfSome o (λ (s : Step). HasStep xs id stamp s) → IfSome o (λ (s : Step). HasStep ys id stamp s)
-last_later xs ys id stamp None p h = tt
-last_later xs ys id stamp (Some s) p h = record { line = h.line; there = line_later xs ys h.line p h.there; node = h.node; under = h.under; step = h.step }
 
 stopped_after : (xs ys : List MergedStep) (name : NodeName) (stop : Receipt) → IsPrefix xs ys → HasStopped xs name stop → HasStopped ys name stop
 stopped_after xs ys name stop p (l, there, node, under, event) = (l, line_later xs ys l p there, node, under, event)
@@ -58,6 +52,10 @@ node_at_later name xs ys node stamp p own n =
       after = record { records = n.after.records; are = own_same name.chain name.node ys xs own ∙ n.after.are; replay = n.after.replay; low = n.after.low; stamps = n.after.stamps };
     }
 
+journal_later : (name : NodeName) (xs ys : List Entry) (journal : Option (List (Record Event))) → of author_of (Node name.chain name.node) ys ≡ of author_of (Node name.chain name.node) xs → AreLinesOf (lines_in name.chain xs) name.node journal → AreLinesOf (lines_in name.chain ys) name.node journal
+journal_later name xs ys None own h = tt
+journal_later name xs ys (Some rs) own h = own_same name.chain name.node ys xs own ∙ h
+
 pub recorded_later : {C : Type 0} (represents : C → Plain → Type 0) (d : Desked C) (w v : Written Entry) (r : IsRecorded represents d w) → v.author ≡ w.author → of author_of w.author v.seen ≡ of author_of w.author w.seen → IsPrefix w.seen v.seen
     → IsRecorded represents d v
 recorded_later represents d w v r kept own p =
@@ -70,6 +68,7 @@ recorded_later represents d w v r kept own p =
       at = node_at_later name w.seen v.seen r.node d.cell.stamp p (subst (λ (a : Author). of author_of a v.seen ≡ of author_of a w.seen) r.author own) r.at;
       last = last_later (lines_in name.chain w.seen) (lines_in name.chain v.seen) name.node d.cell.stamp d.cell.last more r.last;
       stopped = λ off. stopped_after (lines_in name.chain w.seen) (lines_in name.chain v.seen) name (receipt_of d.cell) more (r.stopped off);
+      journal = journal_later name w.seen v.seen d.cell.journal (subst (λ (a : Author). of author_of a v.seen ≡ of author_of a w.seen) r.author own) r.journal;
     }
 
 -- ---- the refusal of a cell

@@ -1,5 +1,5 @@
 -- A node whose steps are in a store's history, and the calls that it accepted and answered there.
-use Rattle.std.specs.Prelude.{◌≡◌, ◌≢◌, ℕ, Bool, false, List, [], ◌∷◌, ◌++◌, Contains, Option, Some, None, IfSome}
+use Rattle.std.specs.Prelude.{◌≡◌, ◌≢◌, ℕ, Bool, false, List, [], ◌∷◌, ◌++◌, map, Contains, Option, Some, None, IfSome}
 use Rattle.std.specs.List.{AllByRecursion}
 use Rattle.std.specs.declared.snapshot.Snapshot.{Snapshot}
 use mathlib.Core.List.{IsPrefix}
@@ -14,11 +14,11 @@ use Rattle.craq_seat.specs.declared.journal.BookEvent.{BookEvent}
 use Rattle.craq_seat.specs.declared.journal.BookEvent.TheVariants as books
 use Rattle.craq_seat.specs.declared.journal.Receipt.{Receipt}
 use Rattle.craq_seat.specs.declared.journal.Record.{Record}
-use Rattle.craq_seat.specs.Books.{book_opening}
+use Rattle.craq_seat.specs.Books.{book_opening, members_of}
 use Rattle.craq_seat.specs.Calls.{Called, Desked}
 use Rattle.craq_seat.specs.Cells.{Celled, opened, receipt_of}
-use Rattle.craq_seat.specs.Merge.{MergedStep, book_line}
-use Rattle.craq_causality.specs.Authors.{first_of}
+use Rattle.craq_seat.specs.Merge.{MergedStep, book_line, node_line}
+use Rattle.craq_causality.specs.Authors.{first_of, lines_of}
 use Rattle.craq_causality.specs.Causal.{HasJoined, HasStopped, IsOfSent}
 use Rattle.craq_ghost_history.specs.declared.author.Author.TheVariants.{Node}
 use Rattle.craq_ghost_history.specs.Histories.{Written}
@@ -37,8 +37,32 @@ pub record HasStep (lines : List MergedStep) (id stamp : ℕ) (taken : Step) : T
   pub under : line.stamp ≡ stamp
   pub step : line.step ≡ taken
 
+-- a node's journal, if it keeps one, has the node's lines among these
+abbrev pub AreLinesOf : List MergedStep → ℕ → Option (List (Record Event)) → Type 0
+AreLinesOf lines id journal = IfSome journal (λ (rs : List (Record Event)). lines_of id lines ≡ map (node_line id) rs)
+
+-- so has a master's journal
+abbrev pub AreMasterLines : List MergedStep → Option (List (Record BookEvent)) → Type 0
+AreMasterLines lines journal = IfSome journal (λ (rs : List (Record BookEvent)). lines_of 0 lines ≡ map book_line rs)
+
+-- the journal of a node's cell has the node's lines in this history
+abbrev pub HasLinesIn : {C : Type 0} → List Entry → Celled C Event → Type 0
+HasLinesIn log cell = AreLinesOf (lines_in cell.opening.name.chain log) cell.opening.name.node cell.journal
+
+-- it had them in a history with which this one begins
+abbrev pub HadLinesIn : {C : Type 0} → List Entry → Celled C Event → Type 0
+HadLinesIn log cell = (before : List Entry) × IsPrefix before log × HasLinesIn before cell
+
+-- the journal of a master's cell has the master's lines in this history
+abbrev pub BookHasLinesIn : List Entry → Celled Mastered BookEvent → Type 0
+BookHasLinesIn log book = AreMasterLines (lines_in book.opening.name.chain log) book.journal
+
+-- it had them in a history with which this one begins
+abbrev pub BookHadLinesIn : List Entry → Celled Mastered BookEvent → Type 0
+BookHadLinesIn log book = (before : List Entry) × IsPrefix before log × BookHasLinesIn before book
+
 -- the desk's node is the replay of its entries in the history, of which the writer knows all; its last step is among them, and it is a
--- stop if the node does not run
+-- stop if the node does not run. Its journal has these entries
 pub record IsRecorded {C : Type 0} (represents : C → Plain → Type 0) (d : Desked C) (w : Written Entry) : Type 0 where
   pub author : w.author ≡ Node d.cell.opening.name.chain d.cell.opening.name.node
   pub node : Plain
@@ -46,6 +70,7 @@ pub record IsRecorded {C : Type 0} (represents : C → Plain → Type 0) (d : De
   pub at : IsNodeAt d.cell.opening.name w.seen node d.cell.stamp
   pub last : IfSome d.cell.last (λ (step : Step). HasStep (lines_in d.cell.opening.name.chain w.seen) d.cell.opening.name.node d.cell.stamp step)
   pub stopped : node.running ≡ false → HasStopped (lines_in d.cell.opening.name.chain w.seen) d.cell.opening.name (receipt_of d.cell)
+  pub journal : HasLinesIn w.seen d.cell
 
 -- a node may begin after this history: its chain was opened, the node is a first member or has joined, and its cell took no step
 pub record CanBegin {C : Type 0} (represents : C → Plain → Type 0) (log : List Entry) (cell : Celled C Event) : Type 0 where
@@ -55,6 +80,7 @@ pub record CanBegin {C : Type 0} (represents : C → Plain → Type 0) (log : Li
   pub joined : HasJoined members (lines_in cell.opening.name.chain log) cell.opening.name.node
   pub first : represents cell.inside (first_of cell.opening.name.chain members cell.opening.name.node)
   pub unmoved : cell.last ≡ None
+  pub empty : IfSome cell.journal (λ (rs : List (Record Event)). rs ≡ [])
 
 -- in this history the master of the chain took a step on this event
 abbrev pub HasOrdered : List Entry → ℕ → BookEvent → Type 0
@@ -70,13 +96,17 @@ pub record IsUnjoined {C : Type 0} (represents : C → Plain → Type 0) (name :
   pub member : name.node ≢ 0
   pub first : represents cell.inside (opening_joined name)
   pub unmoved : cell.last ≡ None
+  pub empty : IfSome cell.journal (λ (rs : List (Record Event)). rs ≡ [])
 
--- the master is the replay of its entries in the history, of which the writer knows all; its last step is among them
+-- the master is the replay of its entries in the history, of which the writer knows all; its last step is among them. Its journal has
+-- these entries
 pub record IsRecordedBook (b : Celled Mastered BookEvent) (w : Written Entry) : Type 0 where
   pub author : w.author ≡ Node b.opening.name.chain 0
   pub zero : b.opening.name.node ≡ 0
   pub at : IsMasterAt b.opening.name.chain w.seen b.inside b.stamp
   pub last : IfSome b.last (λ (step : Step). HasStep (lines_in b.opening.name.chain w.seen) b.opening.name.node b.stamp step)
+  pub journal : BookHasLinesIn w.seen b
+  pub first : members_in b.opening.name.chain w.seen ≡ Some (members_of b.opening.config)
 
 -- a master's cell as it was opened, before any step
 abbrev pub IsUnmoved : Celled Mastered BookEvent → Type 0

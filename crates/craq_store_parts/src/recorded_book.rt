@@ -1,15 +1,16 @@
 //! `RecordedBook`: the cell of a chain's master whose steps are entries of the store's history; a
 //! running chain has one under its lock.
-ghost use Rattle.std.specs.Prelude.{◌≡◌, [], IfOk, IfSome};
-ghost use Rattle.craq_seat.specs.Books.{IsBook};
+ghost use Rattle.std.specs.Prelude.{◌≡◌, [], Some, IfOk, IfSome};
+ghost use Rattle.craq_seat.specs.Books.{IsBook, members_of};
 ghost use Rattle.craq_seat.specs.declared.journal.BookEvent.TheVariants as BookEvent;
 ghost use Rattle.craq_seat.specs.Calls.{receipt_in};
 ghost use Rattle.craq_seat.specs.Taken.{TakesTransition};
 ghost use Rattle.craq_causality.specs.Causal.{IsOfStopped};
 ghost use Rattle.craq_ghost_history.specs.declared.author.Author.TheVariants as Author;
-ghost use Rattle.craq_store_history.specs.Entries.{lines_in};
+ghost use Rattle.craq_store_history.specs.Chains.{IsHistory};
+ghost use Rattle.craq_store_history.specs.Entries.{lines_in, members_in};
 ghost use Rattle.craq_store_history.specs.Steps.{IsMasterAt};
-ghost use Rattle.craq_store_parts.specs.Recorded.{HasStep, IsRecordedBook, IsUnmoved};
+ghost use Rattle.craq_store_parts.specs.Recorded.{BookHadLinesIn, BookHasLinesIn, HasStep, IsRecordedBook, IsUnmoved};
 ghost use Rattle.craq_store_parts.specs.Witnessed.{IsWitnessedOrder};
 
 use crate::joined_node::JoinedNode;
@@ -153,12 +154,28 @@ impl<N: Named> RecordedBook<N> {
     }
 
     /// Returns a token that has seen all steps of the master, which is the replay of them; the last
-    /// one is in it.
+    /// one is in it. The master's journal has its lines there, and the chain has the members of the
+    /// master's opening.
     pub fn token(&mut self, history: &StoreHistory<N>) -> StoreToken<N>
         ensures same { self.new ≡ self.old }
         ensures at { IsMasterAt self.old.opening.name.chain result self.old.inside self.old.stamp }
         ensures last { IfSome self.old.last (λ step. HasStep (lines_in self.old.opening.name.chain result) self.old.opening.name.node self.old.stamp step) }
+        ensures lines { BookHasLinesIn result self.old }
+        ensures first { members_in self.old.opening.name.chain result ≡ Some (members_of self.old.opening.config) }
     {
         self.writer.token(history)
+    }
+
+    /// Sees all that the token has seen, which keeps the rule. If the token had seen the master's
+    /// lines, its journal has them there: the master takes no step meanwhile.
+    pub fn see(&mut self, history: &StoreHistory<N>, token: &mut StoreToken<N>)
+        requires { BookHadLinesIn token.old self.old }
+        ensures lines { BookHasLinesIn token.old self.old }
+        ensures rule { IsHistory token.old }
+        ensures same { self.new ≡ self.old }
+        ensures token { token.new ≡ token.old }
+    {
+        let seen = token.again(history);
+        self.writer.learn(history, seen);
     }
 }

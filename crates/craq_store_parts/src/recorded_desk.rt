@@ -13,7 +13,7 @@ ghost use Rattle.craq_seat.specs.Taken.{TakesEvent};
 ghost use Rattle.craq_ghost_history.specs.declared.author.Author.TheVariants as Author;
 ghost use Rattle.craq_store_history.specs.Entries.{lines_in};
 ghost use Rattle.craq_store_history.specs.Chains.{Accepts, WasCalled};
-ghost use Rattle.craq_store_parts.specs.Recorded.{CanBegin, HasStep, HasTaken, HasTakenAfter, HaveReplied, IsRecorded, MayHappen, accepted_under};
+ghost use Rattle.craq_store_parts.specs.Recorded.{CanBegin, HadLinesIn, HasLinesIn, HasStep, HasTaken, HasTakenAfter, HaveReplied, IsRecorded, MayHappen, accepted_under};
 ghost use Rattle.craq_store_parts.specs.Sent.{made_in, outcome_of};
 ghost use Rattle.craq_store_parts.specs.Witnessed.{RefusesAt};
 
@@ -220,12 +220,26 @@ impl<C: Core + Named> RecordedDesk<C> {
         }
     }
 
-    /// Returns a token that has seen all steps of the node; the last one is in it.
+    /// Returns a token that has seen all steps of the node; the last one is in it. The node's journal
+    /// has its lines there.
     pub fn token(&mut self, history: &StoreHistory<C>) -> StoreToken<C>
         ensures same { self.new ≡ self.old }
         ensures last { IfSome self.old.cell.last (λ step. HasStep (lines_in self.old.cell.opening.name.chain result) self.old.cell.opening.name.node self.old.cell.stamp step) }
+        ensures lines { HasLinesIn result self.old.cell }
     {
         self.writer.token(history)
+    }
+
+    /// Sees all that the token has seen. If the token had seen the node's lines, its journal has them
+    /// there: the node takes no step meanwhile.
+    pub fn see(&mut self, history: &StoreHistory<C>, token: &mut StoreToken<C>)
+        requires { HadLinesIn token.old self.old.cell }
+        ensures lines { HasLinesIn token.old self.old.cell }
+        ensures same { self.new ≡ self.old }
+        ensures token { token.new ≡ token.old }
+    {
+        let seen = token.again(history);
+        self.writer.learn(history, seen);
     }
 
     /// Returns the proof that the node has stopped and the receipt of its last step, in which it

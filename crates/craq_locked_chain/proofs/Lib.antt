@@ -1,2 +1,4 @@
 mod Becoming
+mod Guards
 mod Openings
+mod Sent

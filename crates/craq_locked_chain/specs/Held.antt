@@ -1,6 +1,6 @@
 -- The cells of a chain whose locks are held, and the claims that an audit of a running chain
 -- confirms.
-use Rattle.std.specs.Prelude.{List, Result}
+use Rattle.std.specs.Prelude.{◌≡◌, List, Result, Some}
 use Rattle.std.specs.List.{AllByRecursion}
 use Rattle.std.specs.declared.sync.MutexGuard.{MutexGuard}
 use Rattle.std.specs.Sync.Mutex.{mutex_guard_value}
@@ -11,10 +11,14 @@ use Rattle.craq_epochs.specs.Mastered.{Mastered}
 use Rattle.craq_audit.specs.declared.finding.Audit.{Audit}
 use Rattle.craq_audit.specs.Audited.{Audits}
 use Rattle.craq_seat.specs.declared.journal.BookEvent.{BookEvent}
-use Rattle.craq_seat.specs.Books.{IsBook}
+use Rattle.craq_seat.specs.Books.{IsBook, members_of}
 use Rattle.craq_seat.specs.Calls.{Called}
 use Rattle.craq_seat.specs.Cells.{Celled}
 use Rattle.craq_seat.specs.Kept.{IsKept}
+use Rattle.craq_store_history.specs.declared.entry.Entry.{Entry}
+use Rattle.craq_store_history.specs.Chains.{IsHistory}
+use Rattle.craq_store_history.specs.Entries.{members_in}
+use Rattle.craq_store_parts.specs.Recorded.{BookHasLinesIn, HasLinesIn}
 use Rattle.craq_running_node.specs.declared.steps.SeatedNode.{SeatedNode}
 
 -- a chain's master and the cells of its nodes, as their locks hold them
@@ -26,11 +30,21 @@ pub record Held (C : Type 0) : Type 0 where
 abbrev pub cell_in : {C : Type 0} → MutexGuard (SeatedNode C) → Celled C Event
 cell_in seat = (mutex_guard_value seat).desk.cell
 
+-- one history, which keeps the rule, has the steps of all these journals: each author's lines there
+-- are its journal, if it keeps one. The chain was opened there with the master's first members
+pub record HaveHistory {C : Type 0} (held : Held C) : Type 0 where
+  pub log : List Entry
+  pub rule : IsHistory log
+  pub first : members_in held.book.opening.name.chain log ≡ Some (members_of held.book.opening.config)
+  pub book : BookHasLinesIn log held.book
+  pub cells : AllByRecursion (λ (c : Celled C Event). HasLinesIn log c) held.cells
+
 -- the master was opened with members, and each step of the master and of the nodes is their own:
--- replaying a journal leads to its cell
+-- replaying a journal leads to its cell. One history has all of these steps
 pub record AreOwn {C : Type 0} (represents : C → Plain → Type 0) (held : Held C) : Type 0 where
   pub book : IsBook held.book
   pub cells : AllByRecursion (IsKept represents) held.cells
+  pub history : HaveHistory held
 
 -- the result is that of an audit of cells whose steps are their own, and whose master has the
 -- property

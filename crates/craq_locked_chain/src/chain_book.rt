@@ -5,14 +5,15 @@ ghost use Rattle.craq_causality.specs.Causal.{IsOfStopped};
 ghost use Rattle.craq_ghost_history.specs.declared.author.Author.TheVariants as Author;
 ghost use Rattle.craq_locked_chain.specs.Membered.{CanBecome};
 ghost use Rattle.craq_runs.specs.Chain.{sent_in};
-ghost use Rattle.craq_seat.specs.Books.{IsBook, first_master};
+ghost use Rattle.craq_seat.specs.Books.{IsBook, first_master, members_of};
 ghost use Rattle.craq_seat.specs.Calls.{receipt_in};
 ghost use Rattle.craq_seat.specs.Cells.{receipt_of};
 ghost use Rattle.craq_seat.specs.Numbered.{numbered_from};
 ghost use Rattle.craq_seat.specs.Taken.{TakesTransition};
 ghost use Rattle.craq_sending.specs.Sent.{AreSentAs};
+ghost use Rattle.craq_store_history.specs.Chains.{IsHistory};
 ghost use Rattle.craq_store_history.specs.Entries.{lines_in, members_in};
-ghost use Rattle.craq_store_parts.specs.Recorded.{IsUnmoved};
+ghost use Rattle.craq_store_parts.specs.Recorded.{BookHadLinesIn, BookHasLinesIn, IsUnmoved};
 ghost use Rattle.craq_store_parts.specs.Witnessed.{IsWitnessedOrder};
 
 use craq_ghost_history::Named;
@@ -118,11 +119,26 @@ impl<N: Named> ChainBook<N> {
         messages_of_book(alloc, history, &mut self.book)
     }
 
-    /// Returns a token that has seen all steps of the master.
+    /// Returns a token that has seen all steps of the master. The master's journal has its lines
+    /// there, and the chain has the members of the master's opening.
     pub fn token(&mut self, history: &StoreHistory<N>) -> StoreToken<N>
-        ensures { self.new ≡ self.old }
+        ensures same { self.new ≡ self.old }
+        ensures lines { BookHasLinesIn result self.old }
+        ensures first { members_in self.old.opening.name.chain result ≡ Some (members_of self.old.opening.config) }
     {
         self.book.token(history)
+    }
+
+    /// Sees all that the token has seen, which keeps the rule. If the token had seen the master's
+    /// lines, its journal has them there: the master takes no step meanwhile.
+    pub fn see(&mut self, history: &StoreHistory<N>, token: &mut StoreToken<N>)
+        requires { BookHadLinesIn token.old self.old }
+        ensures lines { BookHasLinesIn token.old self.old }
+        ensures rule { IsHistory token.old }
+        ensures same { self.new ≡ self.old }
+        ensures token { token.new ≡ token.old }
+    {
+        self.book.see(history, token);
     }
 
     /// Returns the master's cell. Never allocates.

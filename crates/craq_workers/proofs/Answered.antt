@@ -1,11 +1,12 @@
 -- The answer of an audit of a chain's cells is that of the store that has the chain and keeps journals.
-use Rattle.std.proofs.Common.{◌≡◌, ℕ, List, Result, Ok, Err, Some, map, option_map, slice_get, ap, inr, ◌∙◌}
+use Rattle.std.proofs.Common.{◌≡◌, ◌≢◌, ℕ, List, Result, Ok, Err, IfOk, Some, map, option_map, slice_get, ap, inr, ◌∙◌}
 use Rattle.std.proofs.lemmas.Option.{slice_get-map}
 use Rattle.craq_names.specs.declared.refusal.Refusal.{Refusal}
 use Rattle.craq_names.specs.declared.refusal.Refusal.TheVariants as refusals
 use Rattle.craq_model.specs.Plain.{Plain}
 use Rattle.craq_epochs.specs.Mastered.{Mastered}
 use Rattle.craq_audit.specs.declared.finding.Audit.{Audit}
+use Rattle.craq_audit.specs.declared.finding.Audit.TheVariants as audits
 use Rattle.craq_seat.specs.Calls.{Called}
 use Rattle.craq_locked_chain.specs.Held.{Confirms}
 use Rattle.craq_workers.specs.Stores.{AuditAnswers, HasJournals, IsMasterOf, IsRefused, Stored}
@@ -45,6 +46,11 @@ pub answered : {C : Type 0} (represents : C → Plain → Type 0) (store : Store
     → HasJournals store chain → Confirms represents (IsMasterOf store chain) receipts result → AuditAnswers represents store chain receipts result
 answered represents store chain receipts (Ok audit) h k = (h, k)
 answered represents store chain receipts (Err e) h k = refused represents store chain receipts e h k
+
+-- it finds each message's sender, if it finds anything
+pub finds_senders : (answer : Result Audit Refusal) → ((node index : ℕ) → answer ≢ Ok (audits.NoSender node index)) → IfOk answer (λ (found : Audit). (node index : ℕ) → found ≢ audits.NoSender node index)
+finds_senders (Ok found) h = λ node index is. h node index (ap Ok is)
+finds_senders (Err e) h = tt
 
 -- the master of a chain at its place
 pub master_at : {A : Type 0} (first : A → Mastered) (masters : List Mastered) (chains : List A) (i : ℕ) (chain : A)

@@ -1,16 +1,17 @@
 //! `Store::audit`: audits a chain of a running store while all its nodes are locked; for a caller
 //! that has receipts.
-ghost use Rattle.std.specs.Prelude.{◌≡◌, IfOk, length};
+ghost use Rattle.std.specs.Prelude.{◌≡◌, ◌≢◌, ℕ, IfOk, length};
 ghost use Rattle.craq_workers.specs.Stores.{AuditAnswers};
 
 use crate::store::Store;
 use craq_audit::Audit;
 use craq_ghost_history::Named;
-use craq_locked_chain::LockedChain;
+use craq_locked_chain::{ChainBook, LockedChain};
 use craq_names::{ChainId, Refusal};
 use craq_node::Core;
 use craq_running_node::{Gate, RunningNode, SeatedNode};
-use craq_seat::{BookCell, CallReceipt};
+use craq_seat::CallReceipt;
+use craq_store_parts::StoreHistory;
 use std::alloc::{AllocError, Global};
 use std::sync::{Arc, MutexGuard, Wait};
 
@@ -34,14 +35,15 @@ fn lock_all<'a, R: Wait, C: Core + Named>(
 fn lock_chain<'b, 's, R: Wait, C: Core + Named>(
     rt: &R,
     alloc: Global,
-    book: &'b BookCell,
+    history: &StoreHistory<C>,
+    book: &'b mut ChainBook<C>,
     nodes: &'s [Arc<RunningNode<C>>],
 ) -> Result<LockedChain<'b, 's, C>, AllocError>
-    ensures book { IfOk result (λ held. held.book ≡ book.now) }
+    ensures book { IfOk result (λ held. held.book ≡ book.old) }
     ensures cells { IfOk result (λ held. length held.cells ≡ length nodes.now) }
 {
     let seats = lock_all(rt, alloc, nodes)?;
-    LockedChain::new(alloc, book, seats)
+    LockedChain::new(alloc, history, book, seats)
 }
 
 impl<C: Core + Named + Send + 'static, G: Gate + Send + Sync + 'static> Store<C, G> {
@@ -51,25 +53,28 @@ impl<C: Core + Named + Send + 'static, G: Gate + Send + Sync + 'static> Store<C,
     ///
     /// Refused for the first of these that applies: `UnknownChain`; `JournalOff` if the store keeps
     /// no journals; `WrongNode` if the lock holds the master of another chain; `Memory` if there is
-    /// no room for the list of the nodes; then as `LockedChain::audit` refuses.
+    /// no room for the list of the nodes; then as `LockedChain::audit` refuses. Never answers
+    /// `NoSender`.
     pub fn audit<R: Wait>(
         &self,
         rt: &R,
         chain: ChainId,
         receipts: &[CallReceipt],
     ) -> Result<Audit, Refusal>
-        ensures { AuditAnswers C.represents self.now chain receipts.now result }
+        ensures answers { AuditAnswers C.represents self.now chain receipts.now result }
+        ensures sent { IfOk result (λ found. (node index : ℕ) → found ≢ Audit.NoSender node index) }
     {
         let place = self.shared.chain(chain)?;
         if !self.has_journals() {
             return Err(Refusal::JournalOff);
         }
-        let book = place.book.lock(rt);
+        let mut book = place.book.lock(rt);
         if !place.has_opened(book.cell().opening()) {
             book.cell().journal();
             return Err(Refusal::WrongNode);
         }
         let nodes = place.all_nodes(rt, self.alloc)?;
-        lock_chain(rt, self.alloc, book.cell(), nodes.as_slice())?.audit(receipts)
+        let history = &self.shared.history;
+        lock_chain(rt, self.alloc, history, &mut book, nodes.as_slice())?.audit(receipts)
     }
 }

@@ -3,11 +3,11 @@ use Rattle.std.proofs.lemmas.List.{length-map}
 use Rattle.craq_epochs.specs.Mastered.{opened_master}
 use Rattle.craq_seat.specs.Books.{first_master}
 use Rattle.craq_workers.specs.Stores.{IsMasterOf}
-use Rattle.craq_workers.proofs.Answered.{answered, master_at}
+use Rattle.craq_workers.proofs.Answered.{answered, finds_senders, master_at}
 use Rattle.craq_workers.proofs.store.Store.audit.Goals as goal
 
-pub returns : goal.returns
-returns g c =
+pub returns-clause-answers : goal.returns-clause-answers
+returns-clause-answers g c =
     let size : length c.args.self.now.names ≡ length c.self.inside.shared.value.chains.items = ap (λ s. length s.names) (sym c.self.view_is) ∙ length-map _ _ in
     let there : c.args.chain < length c.args.self.now.names = omega (arith, size, rw c.deref.ensures at c.in_ok-place.ensures.there) in
     let journals : c.args.self.now.journals ≡ true = search rules in
@@ -20,3 +20,6 @@ returns g c =
     let such : IsMasterOf c.args.self.now c.args.chain c.in_ok-lock_chain.field-0.book = master ∙ ap Some (sym (ap first_master same ∙ is)) in
     answered g.C.Core.represents c.args.self.now c.args.chain c.args.receipts.now c.audit.result (there, journals)
     (record { held = c.in_ok-lock_chain.field-0; own = c.audit.ensures.own; such = such; audited = c.audit.ensures.audited })
+
+pub returns-clause-sent : goal.returns-clause-sent
+returns-clause-sent g c = finds_senders c.audit.result c.audit.ensures.sent

@@ -104,7 +104,7 @@ none_long (x ∷ xs) short = absurd (omega (arith, short))
 no_items : (keys : Vec ℕ Global) → vec_len keys ≡ 0 → keys.items ≡ []
 no_items keys none = none_long keys.items (let long : keys.len ≡ length keys.items = keys.ok.0 in omega (arith, long, none))
 
-none_waiting : (keys : VecDeque ℕ Global) → deque_len keys ≡ 0 → keys.items ≡ []
+pub none_waiting : (keys : VecDeque ℕ Global) → deque_len keys ≡ 0 → keys.items ≡ []
 none_waiting keys none = none_long keys.items (let long : keys.len ≡ length keys.items = keys.ok.0 in omega (arith, long, none))
 
 -- an index within the list finds the same key, whatever the default past its end
@@ -177,9 +177,9 @@ module _ {S T : Type 0} where
   marks_then s t u first second key = ((second key).0 ∙ (first key).0, (second key).1 ∙ (first key).1)
 
   pub marks_kept : (happens : Slab (Connection S T) → Slab (Connection S T) → ℕ → Type 0) → KeepsMarks happens → (keys : List ℕ) (s t : Slab (Connection S T)) → OneByOne happens keys s t → MarksStay s t
-  marks_kept happens keep_receipts [] s t same = λ key. rw same (refl, refl)
-  marks_kept happens keep_receipts (one ∷ keys) s t h =
-      marks_then s h.0 t (marks_alone s h.0 one (keep_receipts s h.0 one h.1.0) h.1.1 h.1.2) (marks_kept happens keep_receipts keys h.0 t h.2)
+  marks_kept happens keeps [] s t same = λ key. rw same (refl, refl)
+  marks_kept happens keeps (one ∷ keys) s t h =
+      marks_then s h.0 t (marks_alone s h.0 one (keeps s h.0 one h.1.0) h.1.1 h.1.2) (marks_kept happens keeps keys h.0 t h.2)
 
   -- where it happens under other keys alone, what is under a key stays
   pub untouched : (happens : Slab (Connection S T) → Slab (Connection S T) → ℕ → Type 0) (keys : List ℕ) (s t : Slab (Connection S T)) (key : ℕ) → OneByOne happens keys s t

@@ -30,6 +30,13 @@ was_on reported false is off = cc
 pub pushed : (ok : Bool) (old more new : List ℕ) → new ≡ (if ok then more else old) → ok ≡ true → new ≡ more
 pushed ok old more new is on = rw on at is
 
+-- a key is kept exactly where this is reported
+pub kept_if : (reported : Bool) (old more new : List ℕ) → reported ≡ true → new ≡ more → new ≡ (if reported then more else old)
+kept_if reported old more new on is = rw on is
+
+pub left_out_if : (reported : Bool) (old more new : List ℕ) → reported ≡ false → new ≡ old → new ≡ (if reported then more else old)
+left_out_if reported old more new off is = rw off is
+
 pub zero_if : (reported : Bool) (n : ℕ) → reported ≡ (n == 0) → reported ≡ true → n ≡ 0
 zero_if reported n is on = let both : (n == 0) ≡ true = sym is ∙ on in grind (arith, nat_tests)
 

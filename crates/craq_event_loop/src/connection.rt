@@ -1,6 +1,6 @@
 //! A connection of an event loop: its socket and its state (`ConnectionState`), and what goes
 //! between them; called by `event_loop`.
-ghost use Rattle.std.specs.Prelude.{◌≡◌, ◌≤◌, ◌<◌, ◌-◌, ◌↔◌, ◌⊎◌, true, false, length, take, not, IfOk, IsTrue};
+ghost use Rattle.std.specs.Prelude.{◌≡◌, ◌≤◌, ◌<◌, ◌-◌, ◌↔◌, ◌⊎◌, true, false, length, take, not, IsTrue};
 ghost use Rattle.craq_session.specs.declared.connection_state.Phase.TheVariants.{Idle, Waits};
 ghost use Rattle.craq_session.specs.declared.call_request.CallRequest.{CallRequest};
 ghost use Rattle.craq_event_loop.specs.Starved.{IsStarved};
@@ -9,7 +9,7 @@ use crate::backend::{Arrival, LoopBackend};
 use crate::socket::{Moved, Socket};
 use crate::traffic::ClientStream;
 use craq_completions::{Outcome, Token};
-use craq_session::{ConnectionState, Load, Stepped, UnsentCall};
+use craq_session::{ConnectionState, Load, ReceiptPolicy, Stepped, UnsentCall};
 use mio::event::Event;
 use mio::unix::SourceFd;
 use mio::{Interest, Registry};
@@ -84,22 +84,30 @@ pub(crate) struct Connection<S, T> {
     ghost unread: { more ≡ false → ∥ IsStarved state.phase state.codec.buffers.input.items ∥₁ },
 }
 
+/// Makes a stream that came non-blocking and asks for reports of its readiness under this token.
+/// Fails where the system refuses either.
+pub(crate) fn register(
+    stream: &ClientStream,
+    registry: &Registry,
+    token: mio::Token,
+) -> io::Result<()> {
+    stream.stream.set_nonblocking(true)?;
+    let _ = stream.stream.set_nodelay(true);
+    let all = Interest::READABLE | Interest::WRITABLE | Interest::PRIORITY;
+    registry.register(&mut SourceFd(&stream.stream.as_raw_fd()), token, all)
+}
+
 impl<T: Drop> Connection<ClientStream, T> {
     ghost use Rattle.craq_event_loop.specs.Belonging.{CameAs, IsNew};
 
-    /// Makes the state of a connection that came, whose readiness is reported under this token.
-    /// Nothing came on it, nothing is unsent, none of its calls was asked, and its socket is taken
-    /// for ready. Fails where the system refuses to report its readiness.
-    pub(crate) fn open(
-        alloc: Global,
-        registry: &Registry,
-        token: mio::Token,
-        arrival: Arrival<T>,
-        keep_receipts: bool,
-        now: u64,
-    ) -> io::Result<Self>
-        ensures is_new { IfOk result (λ c. IsNew c) }
-        ensures arrival { IfOk result (λ c. CameAs arrival.stream arrival.session arrival.slot arrival.receipts c) }
+    /// Makes the state of a connection that came at the second `now`, with the policy for its
+    /// receipts. Nothing came on it, nothing is unsent, none of its calls was asked, and its socket
+    /// is taken for ready.
+    pub(crate) fn new(alloc: Global, arrival: Arrival<T>, policy: ReceiptPolicy, now: u64) -> Self
+        ensures is_new { IsNew result }
+        ensures arrival { CameAs arrival.stream arrival.session arrival.slot arrival.receipts result }
+        ensures policy { result.state.calls.policy ≡ policy }
+        ensures now { result.heard ≡ now }
     {
         let Arrival {
             stream,
@@ -107,13 +115,9 @@ impl<T: Drop> Connection<ClientStream, T> {
             slot,
             receipts,
         } = arrival;
-        stream.stream.set_nonblocking(true)?;
-        let _ = stream.stream.set_nodelay(true);
-        let all = Interest::READABLE | Interest::WRITABLE | Interest::PRIORITY;
-        registry.register(&mut SourceFd(&stream.stream.as_raw_fd()), token, all)?;
-        Ok(Connection {
+        Connection {
             stream,
-            state: ConnectionState::new(alloc, session, keep_receipts),
+            state: ConnectionState::new(alloc, session, policy),
             calls: 0,
             slot,
             receipts,
@@ -126,7 +130,7 @@ impl<T: Drop> Connection<ClientStream, T> {
             busy: false,
             more: false,
             over: false,
-        })
+        }
     }
 }
 

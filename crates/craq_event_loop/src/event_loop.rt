@@ -1,6 +1,6 @@
 //! `EventLoop`: an event loop. It takes what came, steps each connection that is busy, and sleeps
 //! where none is.
-ghost use Rattle.std.specs.Prelude.{◌≡◌, ◌≢◌, ◌⊎◌, ◌<◌, ◌≤◌, ◌↔◌, ◌++◌, ℕ, Bool, [], ◌∷◌, Some, None, IfOk, OnErr, OnOk, IsTrue, drop, false, filter, nat_lt, option_map, take, if◌then◌else◌};
+ghost use Rattle.std.specs.Prelude.{◌≡◌, ◌≢◌, ◌⊎◌, ◌<◌, ◌≤◌, ◌↔◌, ◌++◌, ℕ, Bool, [], ◌∷◌, Some, None, IfOk, OnErr, OnOk, IsTrue, drop, false, filter, max, nat_lt, option_map, take, if◌then◌else◌};
 ghost use Rattle.std.specs.Duration.{as_nanos};
 ghost use Rattle.std.specs.VecDeque.{deque_capacity, deque_len};
 ghost use Rattle.mio.specs.Events.{items};
@@ -12,15 +12,15 @@ ghost use Rattle.craq_event_loop.specs.Belonging.{Delivers, DeliversAll, Deliver
 ghost use Rattle.craq_event_loop.specs.Busy.{HasNone, ListsMarked, LooksAgain, MarksJustBehind, NoneBehind, NoneForgotten, Rests, is_marked, longest_wait, with_key};
 ghost use Rattle.craq_event_loop.specs.Coming.{AllReported, ChangesRoom, EndsIdle, ClosesIfIdle, LooksAt, NoticesAt, PresentStay, TakesIn, TellsOf};
 ghost use Rattle.craq_event_loop.specs.Reaching.{AreReachable, StayReachable};
-ghost use Rattle.craq_event_loop.specs.Rounds.{MoveUp, left_after, most_behind};
+ghost use Rattle.craq_event_loop.specs.Rounds.{MoveUp, left_after};
 ghost use Rattle.craq_event_loop.specs.Serving.{ReadsAt, Serves, WritesAt};
 
 use crate::backend::{Arrival, LoopBackend};
-use crate::connection::{Connection, Share};
+use crate::connection::{Connection, Share, register};
 use crate::socket::Socket;
 use crate::traffic::ClientStream;
 use craq_completions::Completion;
-use craq_session::Load;
+use craq_session::{Load, ReceiptPolicy};
 use mio::event::{Event, Events};
 use mio::{Poll, Registry, Token, Waker};
 use slab::Slab;
@@ -168,13 +168,25 @@ fn give_at<S: Socket + Drop, H: LoopBackend>(
     false
 }
 
-/// Appends a key where it is to be kept and there is room for it.
-fn keep_where(keys: &mut VecDeque<usize>, key: usize, is_kept: bool)
-    ensures keys { deque_len keys.old < deque_capacity keys.old → keys.new.items ≡ (if is_kept then keys.old.items ++ key ∷ [] else keys.old.items) }
-    ensures capacity { deque_capacity keys.old ≤ deque_capacity keys.new }
-{
-    if is_kept {
-        let _ = keys.push_back(key);
+/// The settings of an event loop.
+#[derive(Clone, Copy, Debug)]
+pub struct LoopSettings {
+    /// The fate of the receipts of calls.
+    pub receipts: ReceiptPolicy,
+    /// The seconds without a byte after which a connection is over; 0 for never.
+    pub idle: u32,
+    /// The most connections with work left that are served between two looks for news; 0 counts
+    /// as 1. With a larger number, clients that send many requests at once cost fewer looks. A
+    /// client that waits for each reply then waits longer.
+    pub shares: usize,
+}
+
+impl LoopSettings {
+    /// Returns the most connections with work left that a round serves: at least 1.
+    fn shares(&self) -> usize
+        ensures { result ≡ max 1 self.now.shares }
+    {
+        self.shares.max(1)
     }
 }
 
@@ -186,14 +198,14 @@ struct Members<S, T, P: Drop> {
     /// The connections with news, each once. A round serves all of them.
     busy: Vec<usize>,
     /// Those that have work left after their share, each once: the first has waited longest. A
-    /// round serves it, and no other of them.
+    /// round serves the first ones.
     behind: VecDeque<usize>,
     /// The completions that came.
     completions: Vec<Completion<P>>,
     /// The buffer of one read.
     chunk: Vec<u8>,
-    /// True where the receipts of calls are kept.
-    keep_receipts: bool,
+    /// The fate of the receipts of calls.
+    policy: ReceiptPolicy,
     /// The seconds without a byte after which a connection is over; 0 for never.
     idle: u64,
     /// The backend's seconds as the turn began, where they matter.
@@ -204,10 +216,11 @@ struct Members<S, T, P: Drop> {
 
 impl<S: Socket + Drop, T: Drop, P: Drop> Members<S, T, P> {
     /// Makes an event loop without connections, with this buffer for reads. Takes no memory.
-    fn new(alloc: Global, chunk: Vec<u8>, keep_receipts: bool, idle: u32) -> Self
+    fn new(alloc: Global, chunk: Vec<u8>, settings: &LoopSettings) -> Self
         ensures kept { NoneForgotten result }
         ensures none { HasNone result }
-        ensures idle { result.idle ≡ idle }
+        ensures policy { result.policy ≡ settings.now.receipts }
+        ensures idle { result.idle ≡ settings.now.idle }
     {
         Members {
             alloc,
@@ -216,8 +229,8 @@ impl<S: Socket + Drop, T: Drop, P: Drop> Members<S, T, P> {
             behind: VecDeque::new(alloc),
             completions: Vec::new(alloc),
             chunk,
-            keep_receipts,
-            idle: u64::from(idle),
+            policy: settings.receipts,
+            idle: u64::from(settings.idle),
             now: 0,
             looks: 0,
         }
@@ -360,9 +373,10 @@ impl<S: Socket + Drop, T: Drop, P: Drop> Members<S, T, P> {
         ensures none_busy { self.new.busy.items ≡ [] }
     {
         for key in self.busy.iter() {
-            let stays = give_at(&mut self.connections, registry, backend, *key, self.now);
-            // There is room for the key of each connection.
-            keep_where(&mut self.behind, *key, stays);
+            if give_at(&mut self.connections, registry, backend, *key, self.now) {
+                // There is room for the key of each connection.
+                let _ = self.behind.push_back(*key);
+            }
         }
         self.busy.clear();
     }
@@ -385,32 +399,41 @@ impl<S: Socket + Drop, T: Drop, P: Drop> Members<S, T, P> {
         self.give_all(registry, backend);
     }
 
-    /// Makes the connection busy that has waited longest for its next share. It waits no longer.
-    fn resume(&mut self)
+    /// Makes this number of connections busy, those that have waited longest for their next share.
+    /// They wait no longer.
+    fn resume(&mut self, shares: usize)
         ensures kept { NoneForgotten self.old → NoneForgotten self.new }
-        ensures busy { NoneForgotten self.old → self.new.busy.items ≡ self.old.busy.items ++ take most_behind self.old.behind.items }
-        ensures behind { self.new.behind.items ≡ drop most_behind self.old.behind.items }
+        ensures busy { NoneForgotten self.old → self.new.busy.items ≡ self.old.busy.items ++ take shares self.old.behind.items }
+        ensures behind { self.new.behind.items ≡ drop shares self.old.behind.items }
         ensures connections { self.new.connections ≡ self.old.connections }
     {
-        if let Some(key) = self.behind.pop_front() {
+        for _share in 0..shares {
+            let Some(key) = self.behind.pop_front() else {
+                break;
+            };
             // There is room for the key of each connection.
             let _ = self.busy.push(key);
         }
     }
 
-    /// Serves the connection once that has waited longest for its next share. It waits again, after
-    /// the others, exactly if it is behind.
-    fn go_on<H: LoopBackend<Session = T>>(&mut self, registry: &Registry, backend: &H)
+    /// Serves this number of connections once, those that have waited longest for their next share.
+    /// Each waits again, after the others, exactly if it is behind.
+    fn go_on<H: LoopBackend<Session = T>>(
+        &mut self,
+        registry: &Registry,
+        backend: &H,
+        shares: usize,
+    )
         requires idle { self.old.busy.items ≡ [] }
         requires kept { NoneForgotten self.old }
         requires reachable { AreReachable (H.tells backend.now) (H.refuses backend.now) (called_by (H.submits backend.now) (H.finishes backend.now)) (H.finishes backend.now) self.old.connections }
         ensures kept { NoneForgotten self.new }
-        ensures marks { MarksJustBehind self.new.connections (take most_behind self.old.behind.items) }
-        ensures behind { self.new.behind.items ≡ left_after (λ key. is_marked (get self.new.connections key)) self.old.behind.items }
+        ensures marks { MarksJustBehind self.new.connections (take shares self.old.behind.items) }
+        ensures behind { self.new.behind.items ≡ left_after shares (λ key. is_marked (get self.new.connections key)) self.old.behind.items }
         ensures none_busy { self.new.busy.items ≡ [] }
-        ensures serves { Serves S.remaining S.contents S.is_over S.is_dry S.is_full (H.tells backend.now) (H.refuses backend.now) (called_by (H.submits backend.now) (H.finishes backend.now)) (take most_behind self.old.behind.items) self.old.connections self.new.connections }
+        ensures serves { Serves S.remaining S.contents S.is_over S.is_dry S.is_full (H.tells backend.now) (H.refuses backend.now) (called_by (H.submits backend.now) (H.finishes backend.now)) (take shares self.old.behind.items) self.old.connections self.new.connections }
     {
-        self.resume();
+        self.resume(shares);
         self.step_all(registry, backend);
     }
 
@@ -500,16 +523,10 @@ impl<T: Drop, P: Drop> Members<ClientStream, T, P> {
         self.behind.reserve(count)?;
         self.connections.reserve(1)?;
         let key = self.connections.vacant_key();
-        let Ok(connection) = Connection::open(
-            self.alloc,
-            registry,
-            Token(key),
-            arrival,
-            self.keep_receipts,
-            self.now,
-        ) else {
+        if register(&arrival.stream, registry, Token(key)).is_err() {
             return Err(AllocError);
-        };
+        }
+        let connection = Connection::new(self.alloc, arrival, self.policy, self.now);
         let key = self.connections.insert_reserved(connection);
         self.wake(key);
         Ok(())
@@ -535,16 +552,21 @@ impl<T: Drop, P: Drop> Members<ClientStream, T, P> {
         }
     }
 
-    /// Makes a round: takes what came, serves all connections with news, and then one of those with
-    /// work left (`go_on`). So news waits for one share of those that sent many requests, and each of
-    /// these is served after as many rounds as others waited before it. None is forgotten. Each
-    /// connection's state stays one that a new connection reaches (`Reaches`).
-    fn round<H: LoopBackend<Session = T, Reply = P>>(&mut self, registry: &Registry, backend: &H)
+    /// Makes a round: takes what came, serves all connections with news, and then this number of
+    /// those with work left (`go_on`). So news waits for this number of shares of those that sent
+    /// many requests, and each of these is served once those that waited before it were. None is
+    /// forgotten. Each connection's state stays one that a new connection reaches (`Reaches`).
+    fn round<H: LoopBackend<Session = T, Reply = P>>(
+        &mut self,
+        registry: &Registry,
+        backend: &H,
+        shares: usize,
+    )
         requires kept { NoneForgotten self.old }
         requires reachable { AreReachable (H.tells backend.now) (H.refuses backend.now) (called_by (H.submits backend.now) (H.finishes backend.now)) (H.finishes backend.now) self.old.connections }
         ensures kept { NoneForgotten self.new }
         ensures none_busy { self.new.busy.items ≡ [] }
-        ensures behind { MoveUp self.old.behind.items self.new.behind.items }
+        ensures behind { MoveUp shares self.old.behind.items self.new.behind.items }
         ensures reachable { AreReachable (H.tells backend.now) (H.refuses backend.now) (called_by (H.submits backend.now) (H.finishes backend.now)) (H.finishes backend.now) self.new.connections }
     {
         // Completions first: what comes from then on keeps the thread awake, so no arrival is left
@@ -552,7 +574,7 @@ impl<T: Drop, P: Drop> Members<ClientStream, T, P> {
         self.take_completions(backend);
         self.take_arrivals(registry, backend);
         self.step_all(registry, backend);
-        self.go_on(registry, backend);
+        self.go_on(registry, backend, shares);
     }
 
     /// Makes another round if no connection has work left. No connection with work left is
@@ -561,6 +583,7 @@ impl<T: Drop, P: Drop> Members<ClientStream, T, P> {
         &mut self,
         registry: &Registry,
         backend: &H,
+        shares: usize,
     )
         requires kept { NoneForgotten self.old }
         requires reachable { AreReachable (H.tells backend.now) (H.refuses backend.now) (called_by (H.submits backend.now) (H.finishes backend.now)) (H.finishes backend.now) self.old.connections }
@@ -570,28 +593,33 @@ impl<T: Drop, P: Drop> Members<ClientStream, T, P> {
         ensures reachable { AreReachable (H.tells backend.now) (H.refuses backend.now) (called_by (H.submits backend.now) (H.finishes backend.now)) (H.finishes backend.now) self.new.connections }
     {
         if self.rests() {
-            self.round(registry, backend);
+            self.round(registry, backend, shares);
         }
     }
 
-    /// Makes a round. Makes another one if no connection has work left, for the replies that came
-    /// meanwhile to the calls of the first: they are written before the next look at readiness. No
-    /// connection with work left is forgotten. Each connection's state stays one that a new
-    /// connection reaches (`Reaches`).
-    fn run_once<H: LoopBackend<Session = T, Reply = P>>(&mut self, registry: &Registry, backend: &H)
+    /// Makes a round that serves this number of connections with work left. Makes another one if no
+    /// connection has work left, for the replies that came meanwhile to the calls of the first: they
+    /// are written before the next look at readiness. No connection with work left is forgotten.
+    /// Each connection's state stays one that a new connection reaches (`Reaches`).
+    fn run_once<H: LoopBackend<Session = T, Reply = P>>(
+        &mut self,
+        registry: &Registry,
+        backend: &H,
+        shares: usize,
+    )
         requires kept { NoneForgotten self.old }
         requires reachable { AreReachable (H.tells backend.now) (H.refuses backend.now) (called_by (H.submits backend.now) (H.finishes backend.now)) (H.finishes backend.now) self.old.connections }
         ensures kept { NoneForgotten self.new }
         ensures none_busy { self.new.busy.items ≡ [] }
-        ensures behind { MoveUp self.old.behind.items self.new.behind.items }
+        ensures behind { MoveUp shares self.old.behind.items self.new.behind.items }
         ensures reachable { AreReachable (H.tells backend.now) (H.refuses backend.now) (called_by (H.submits backend.now) (H.finishes backend.now)) (H.finishes backend.now) self.new.connections }
     {
         self.looks = self.looks.saturating_add(1);
         if self.idle > 0 {
             self.look_for_idle(backend.seconds());
         }
-        self.round(registry, backend);
-        self.round_again(registry, backend);
+        self.round(registry, backend, shares);
+        self.round_again(registry, backend, shares);
     }
 }
 
@@ -602,22 +630,15 @@ pub struct EventLoop {
     poll: Poll,
     events: Events,
     chunk: Vec<u8>,
-    /// True where the receipts of calls are kept.
-    keep_receipts: bool,
-    /// The seconds without a byte after which a connection is over; 0 for never.
-    idle: u32,
+    settings: LoopSettings,
 }
 
 impl EventLoop {
-    /// Makes an event loop. `keep_receipts`: whether the receipts of calls are kept; `idle`: the
-    /// seconds without a byte after which a connection is over (0: never). Fails when out of
-    /// memory, or where the system gives no more descriptors.
-    pub fn new(
-        net: &impl Net,
-        alloc: Global,
-        keep_receipts: bool,
-        idle: u32,
-    ) -> Result<Self, AllocError> {
+    /// Makes an event loop with these settings. Fails when out of memory, or where the system gives
+    /// no more descriptors.
+    pub fn new(net: &impl Net, alloc: Global, settings: &LoopSettings) -> Result<Self, AllocError>
+        ensures { IfOk result (λ event_loop. event_loop.settings ≡ settings.now) }
+    {
         let Ok(poll) = Poll::new(net) else {
             return Err(AllocError);
         };
@@ -628,8 +649,7 @@ impl EventLoop {
             poll,
             events: Events::with_capacity(alloc, MOST_EVENTS)?,
             chunk,
-            keep_receipts,
-            idle,
+            settings: *settings,
         })
     }
 
@@ -648,17 +668,14 @@ impl EventLoop {
             mut poll,
             mut events,
             chunk,
-            keep_receipts,
-            idle,
+            settings,
         } = self;
         let mut members = Members::<ClientStream, H::Session, H::Reply>::new(
-            alloc,
-            chunk,
-            keep_receipts,
-            idle,
+            alloc, chunk, &settings,
         );
+        let shares = settings.shares();
         for _ in rt.forever() {
-            members.run_once(poll.registry(), backend);
+            members.run_once(poll.registry(), backend, shares);
             if members.connections.is_empty() && backend.is_over() {
                 break;
             }

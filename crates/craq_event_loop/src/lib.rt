@@ -10,6 +10,6 @@ mod socket;
 mod traffic;
 
 pub use backend::{Arrival, LoopBackend};
-pub use event_loop::EventLoop;
+pub use event_loop::{EventLoop, LoopSettings};
 pub use laws::each_call_has_its_number;
 pub use traffic::{ClientStream, Traffic};

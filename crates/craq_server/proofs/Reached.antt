@@ -105,7 +105,7 @@ module _ (first : Connected) (read written : List ℕ) where
     holds = more read written stood.turns stood.holds;
     last = now;
     witnessed = witnessed_on first stood.last now stood.turns m reply stood.witnessed
-        (nothing_witnessed tells for_memory m stood.last now (kept c.keep_receipts c.receipts.items) d.receipts.items reply same stood.since turn);
+        (nothing_witnessed tells for_memory m stood.last now (kept c.policy c.receipts.items) d.receipts.items reply same stood.since turn);
     since = continues_since r t u now continues;
   }
   took tells (phases.Asks m) r (steps.Calls unsent) t u c d now no_call h stood = absurd no_call

@@ -62,14 +62,14 @@ module _ {D E : Type 0} (turn : Turn D) (seen : Turn E) (f : D → E) (keeps : (
 -- a turn of the request handler of a connection, whose backend makes and finishes calls in the store's history
 abbrev pub turn_of : {C : Type 0} → (C → List ℕ → Type 0) → (CallDoor C Connected → Refusing) → Turn (CallDoor C Connected)
 turn_of tells refuses old message reply new =
-    IsTurn (tells old.backend) (refuses old) old.calls.keep_receipts old.calls.receipts.items message reply new.calls.receipts.items
-    × HasAsked Submits FinishesCall message old.session (kept old.calls.keep_receipts old.calls.receipts.items) reply new.calls.receipts.items new.session
-    × (new.calls.keep_receipts ≡ old.calls.keep_receipts) × (new.backend ≡ old.backend)
+    IsTurn (tells old.backend) (refuses old) old.calls.policy old.calls.receipts.items message reply new.calls.receipts.items
+    × HasAsked Submits FinishesCall message old.session (kept old.calls.policy old.calls.receipts.items) reply new.calls.receipts.items new.session
+    × (new.calls.policy ≡ old.calls.policy) × (new.backend ≡ old.backend)
 
 module _ {C : Type 0} (old new : CallDoor C Connected) (tells : C → List ℕ → Type 0) (refuses : CallDoor C Connected → Refusing) where
   witnessed : (a : CallDoor C Connected) (m : ClientMessage) (r : ClientReply) (b : CallDoor C Connected) → turn_of tells refuses a m r b → IsWitnessedTurn a.session m r b.session
   witnessed a m r b t =
-      turn_witnessed (tells a.backend) (refuses a) m a.session b.session (kept a.calls.keep_receipts a.calls.receipts.items) b.calls.receipts.items r t.1 t.0
+      turn_witnessed (tells a.backend) (refuses a) m a.session b.session (kept a.calls.policy a.calls.receipts.items) b.calls.receipts.items r t.1 t.0
 
   pub serves_witnessed : (read written : List ℕ) (fault : StreamFault) (result : Result ℕ Refusal) → Session (turn_of tells refuses) old read written new fault result
       → Session IsWitnessedTurn old.session read written new.session fault result

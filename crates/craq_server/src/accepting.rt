@@ -20,7 +20,7 @@ use craq_front::Stream;
 use craq_names::Refusal;
 use craq_node::Core;
 use craq_seat::CallReceipt;
-use craq_session::CallDoor;
+use craq_session::{CallDoor, ReceiptPolicy};
 use craq_workers::{Gate, Named, Store};
 use std::alloc::{AllocError, Global};
 use std::net::{TcpListener, TcpStream};
@@ -39,8 +39,8 @@ const GRACE_PAUSES: u32 = 500;
 /// The way in which connections are served.
 #[derive(Clone, Copy, Debug)]
 pub struct Serving {
-    /// True where the receipts of calls are kept.
-    pub keep_receipts: bool,
+    /// The fate of the receipts of calls.
+    pub receipts: ReceiptPolicy,
     /// The number of connections after which no more are taken, those included that were turned
     /// away; 0 for no end.
     pub connections: u32,
@@ -196,7 +196,7 @@ where
     /// Makes room for a new connection's receipts, where they are kept, and returns its index.
     /// Fails only when out of memory.
     pub(crate) fn new_receipts(&self) -> Result<usize, AllocError> {
-        if !self.serving.keep_receipts {
+        if self.serving.receipts == ReceiptPolicy::KeepNone {
             return Ok(0);
         }
         let mut receipts = self.receipts.lock(&self.rt);
@@ -279,13 +279,8 @@ where
         };
         let mut reader = Stream::new(metered);
         let mut writer = Stream::new(metered);
-        let mut door = CallDoor::new(
-            self.alloc,
-            backend,
-            session,
-            slot,
-            self.serving.keep_receipts,
-        );
+        let policy = self.serving.receipts;
+        let mut door = CallDoor::new(self.alloc, backend, session, slot, policy);
         let _ = serve_connection(self.alloc, &mut reader, &mut writer, &mut door);
         door.calls.into_receipts()
     }
@@ -407,7 +402,6 @@ where
 /// connection for which it refuses that is closed and not counted.
 pub fn accept_with<'x, R, C, G>(
     rt: R,
-    alloc: Global,
     store: &'x Store<C, G>,
     listener: &TcpListener,
     connections: &'x Connections,
@@ -418,7 +412,11 @@ where
     C: Core + Named + Send + 'static,
     G: Gate + Send + Sync + 'static,
 {
-    let EventLoops { serving, all } = event_loops;
+    let EventLoops {
+        alloc,
+        serving,
+        all,
+    } = event_loops;
     let server = Server::new(rt, alloc, store, serving, connections);
     let taken = if listener.set_nonblocking(true).is_err() {
         Ok(Taken {
@@ -494,9 +492,14 @@ where
     ensures err { IfErr result (λ e. (e ≡ Refusal.Memory) ⊎ (e ≡ Refusal.Io)) }
     ensures none { store.now.journals ≡ false → IfOk result (λ receipts. receipts.items ≡ []) }
 {
-    let keep_receipts = store.has_journals();
+    let has_journals = store.has_journals();
+    let receipts = if has_journals {
+        ReceiptPolicy::KeepAll
+    } else {
+        ReceiptPolicy::KeepNone
+    };
     let serving = Serving {
-        keep_receipts,
+        receipts,
         connections,
         threads: 0,
         idle: 0,
@@ -505,9 +508,9 @@ where
     };
     let event_loops = EventLoops::threadless(alloc, serving);
     let open = Connections::new(alloc, 0)?;
-    let served = accept_with(rt, alloc, store, listener, &open, event_loops)?;
+    let served = accept_with(rt, store, listener, &open, event_loops)?;
     let receipts = receipts_of(alloc, served)?;
-    if keep_receipts {
+    if has_journals {
         Ok(receipts)
     } else {
         drop(receipts);

@@ -1,6 +1,6 @@
 //! `EventLoops`: the event loops of a server, made before serving starts. And serving by a few
 //! threads, an event loop each; called by `accepting`.
-ghost use Rattle.std.specs.Prelude.{◌≡◌, [], IfOk, IfSome, length};
+ghost use Rattle.std.specs.Prelude.{◌≡◌, ◌==◌, [], IfOk, IfSome, length, if◌then◌else◌};
 ghost use Rattle.craq_server.specs.Sessions.{IsReachableAt};
 
 use crate::accepting::{Next, Server, Serving, Taken};
@@ -8,7 +8,7 @@ use crate::runtime::ServerRuntime;
 use crate::served_store::{ServedStore, StoreOutcome};
 use crate::store_session::StoreSession;
 use craq_completions::{Completion, CompletionQueue};
-use craq_event_loop::{Arrival, ClientStream, EventLoop, LoopBackend};
+use craq_event_loop::{Arrival, ClientStream, EventLoop, LoopBackend, LoopSettings};
 use craq_frames::Text;
 use craq_names::Refusal;
 use craq_node::Core;
@@ -254,10 +254,34 @@ where
     }
 }
 
+/// The most connections with work left that an event loop serves between two looks for news, where
+/// it is the only one. A look takes about a sixth of the time of a share. This project's profile.
+const SHARES_ALONE: usize = 4;
+
+/// The most such connections where there are more event loops. This project's profile.
+const SHARES_AMONG_OTHERS: usize = 1;
+
+/// Returns the settings of each event loop of a server that serves as `serving` says.
+fn settings_of(serving: &Serving) -> LoopSettings
+    ensures { result ≡ record { receipts = serving.now.receipts; idle = serving.now.idle; shares = if serving.now.threads == 1 then 4 else 1 } }
+{
+    let shares = if serving.threads == 1 {
+        SHARES_ALONE
+    } else {
+        SHARES_AMONG_OTHERS
+    };
+    LoopSettings {
+        receipts: serving.receipts,
+        idle: serving.idle,
+        shares,
+    }
+}
+
 /// The way in which connections are served, and an event loop for each thread that serves many of
 /// them: what `accept_with` needs before it begins.
 #[derive(Drop)]
 pub struct EventLoops {
+    pub(crate) alloc: Global,
     pub(crate) serving: Serving,
     pub(crate) all: Vec<EventLoop>,
 }
@@ -269,11 +293,16 @@ impl EventLoops {
     pub fn new(net: &impl Net, alloc: Global, serving: Serving) -> Result<Self, AllocError>
         ensures { IfOk result (λ event_loops. (event_loops.serving ≡ serving) × (length event_loops.all.items ≡ serving.threads)) }
     {
+        let settings = settings_of(&serving);
         let mut all = Vec::new(alloc);
         for _ in 0..serving.threads {
-            all.push(EventLoop::new(net, alloc, serving.keep_receipts, serving.idle)?)?;
+            all.push(EventLoop::new(net, alloc, &settings)?)?;
         }
-        Ok(EventLoops { serving, all })
+        Ok(EventLoops {
+            alloc,
+            serving,
+            all,
+        })
     }
 
     /// Makes the value for serving by a thread for each connection: no event loop.
@@ -282,6 +311,7 @@ impl EventLoops {
         ensures none { result.all.items ≡ [] }
     {
         EventLoops {
+            alloc,
             serving,
             all: Vec::new(alloc),
         }

@@ -126,7 +126,7 @@ where
     #[tactic(auto, using(crate::proofs::Reached::reachable_witnessed))]
     pub(crate) fn end_connection(&self, state: ConnectionState<StoreSession<C>>) -> Vec<CallReceipt>
         requires { IsReachableAt self.now.store.now state }
-        ensures receipts { result.items ≡ kept state.calls.keep_receipts state.calls.receipts.items }
+        ensures receipts { result.items ≡ kept state.calls.policy state.calls.receipts.items }
         ensures witnessed { (first : Connected) × (read : List ℕ) × (written : List ℕ) × IsWitnessedConnection first read written state }
     {
         state.into_receipts()

@@ -1,5 +1,5 @@
 -- A turn in two halves is a turn.
-use Rattle.std.proofs.Common.{◌≡◌, ◌⊎◌, ℕ, Bool, List, Result, inl, inr, sym, subst}
+use Rattle.std.proofs.Common.{◌≡◌, ◌⊎◌, ℕ, List, Result, inl, inr, sym, subst}
 use Rattle.craq_names.specs.declared.name.NodeName.{NodeName}
 use Rattle.craq_names.specs.declared.refusal.Refusal.{Refusal}
 use Rattle.craq_model.specs.declared.ask.Ask.{Ask}
@@ -9,6 +9,7 @@ use Rattle.craq_frames.specs.declared.ask.ClientMessage.TheVariants as messages
 use Rattle.craq_frames.specs.declared.answer.ClientReply.{ClientReply}
 use Rattle.craq_frames.specs.declared.answer.ClientReply.TheVariants as replies
 use Rattle.craq_seat.specs.Calls.{Called}
+use Rattle.craq_session.specs.declared.calls.ReceiptPolicy.{ReceiptPolicy}
 use Rattle.craq_session.specs.declared.call_request.CallRequest.{CallRequest}
 use Rattle.craq_session.specs.declared.call_request.Begun.TheVariants as begun
 use Rattle.craq_session.specs.Halves.{BeginsTurn, EndsTurn, IsRefusable, RefusesCall, asked_by, tells_none}
@@ -45,10 +46,10 @@ module _ (lacks : Type 0) (refuses : Refusing) where
   memory_too (messages.Read node pass mode object) (inr full) e h = inl (h, full)
   memory_too messages.Status why e h = h
 
-  pub begun_turn : (tells : List ℕ → Type 0) (keep_receipts : Bool) (old new : List Called) (m : ClientMessage) (reply : ClientReply)
-      → (m ≡ messages.Status) ⊎ lacks → IsTurn tells for_memory keep_receipts old m reply new → IsTurn tells (or_memory_where lacks refuses) keep_receipts old m reply new
-  begun_turn tells keep_receipts old new m reply why h =
-      answered_too tells tells (λ text is. is) for_memory (or_memory_where lacks refuses) (kept keep_receipts old) m new (memory_too m why) reply h
+  pub begun_turn : (tells : List ℕ → Type 0) (policy : ReceiptPolicy) (old new : List Called) (m : ClientMessage) (reply : ClientReply)
+      → (m ≡ messages.Status) ⊎ lacks → IsTurn tells for_memory policy old m reply new → IsTurn tells (or_memory_where lacks refuses) policy old m reply new
+  begun_turn tells policy old new m reply why h =
+      answered_too tells tells (λ text is. is) for_memory (or_memory_where lacks refuses) (kept policy old) m new (memory_too m why) reply h
 
   call_too : (r : Refusing) (node pass : ℕ) (ask : Ask) → ((e : Refusal) → r (name_of node ask) pass ask e → refuses (name_of node ask) pass ask e)
       → (e : Refusal) → MayReplyRefused r (message_of node pass ask) e → MayReplyRefused (or_memory_where lacks refuses) (message_of node pass ask) e
@@ -56,12 +57,12 @@ module _ (lacks : Type 0) (refuses : Refusing) where
   call_too r node pass (asks.Read mode object) more e h = inr (more e h)
 
   -- a call that its backend may refuse with all that it can come back with
-  pub halves_turn : (tells : List ℕ → Type 0) (keep_receipts : Bool) (old mid new : List Called) (m : ClientMessage) (q : CallRequest) (outcome : Result Called Refusal) (reply : ClientReply)
-      → IsRefusable refuses q outcome → BeginsTurn tells keep_receipts old m (begun.Calls q) mid → EndsTurn q outcome mid reply new → IsTurn tells (or_memory_where lacks refuses) keep_receipts old m reply new
-  halves_turn tells keep_receipts old mid new m q outcome reply may h ends =
+  pub halves_turn : (tells : List ℕ → Type 0) (policy : ReceiptPolicy) (old mid new : List Called) (m : ClientMessage) (q : CallRequest) (outcome : Result Called Refusal) (reply : ClientReply)
+      → IsRefusable refuses q outcome → BeginsTurn tells policy old m (begun.Calls q) mid → EndsTurn q outcome mid reply new → IsTurn tells (or_memory_where lacks refuses) policy old m reply new
+  halves_turn tells policy old mid new m q outcome reply may h ends =
       let r : Refusing = λ node pass ask e. RefusesCall q outcome e in
       let more : (e : Refusal) → RefusesCall q outcome e → refuses (name_of q.node.node q.ask) q.pass q.ask e = λ e is. subst (λ (x : NodeName). refuses x q.pass q.ask e) h.1 (may e is) in
       let whole : IsAnswered tells (or_memory_where lacks refuses) mid (asked_by q) reply new =
       answered_too tells_none tells (λ text none. absurd none) r (or_memory_where lacks refuses) mid (asked_by q) new (call_too r q.node.node q.pass q.ask more) reply ends.answered in
-      let at : IsAnswered tells (or_memory_where lacks refuses) (kept keep_receipts old) (asked_by q) reply new = subst (λ (x : List Called). IsAnswered tells (or_memory_where lacks refuses) x (asked_by q) reply new) h.2 whole in
-      subst (λ (x : ClientMessage). IsAnswered tells (or_memory_where lacks refuses) (kept keep_receipts old) x reply new) (sym h.0) at
+      let at : IsAnswered tells (or_memory_where lacks refuses) (kept policy old) (asked_by q) reply new = subst (λ (x : List Called). IsAnswered tells (or_memory_where lacks refuses) x (asked_by q) reply new) h.2 whole in
+      subst (λ (x : ClientMessage). IsAnswered tells (or_memory_where lacks refuses) (kept policy old) x reply new) (sym h.0) at

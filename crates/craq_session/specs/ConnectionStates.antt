@@ -99,10 +99,10 @@ IsUnderWay phase found = found ≡ None
 -- looked for; or nothing is to be done
 abbrev pub Took : (List ℕ → Type 0) → Phase → Stepped → Phase → ProtocolCodec → ProtocolCodec → DoorCalls → DoorCalls → Type 0
 Took tells (phases.Asks m) steps.Goes q t u c d =
-    (reply : ClientReply) × HasOneMore (phases.Asks m) t q u m reply × IsTurn tells for_memory c.keep_receipts c.receipts.items m reply d.receipts.items × MakesRoom c m (Reported reply) d × Continues q t u
-    × (d.receipts.items ≡ kept c.keep_receipts c.receipts.items)
+    (reply : ClientReply) × HasOneMore (phases.Asks m) t q u m reply × IsTurn tells for_memory c.policy c.receipts.items m reply d.receipts.items × MakesRoom c m (Reported reply) d × Continues q t u
+    × (d.receipts.items ≡ kept c.policy c.receipts.items)
 Took tells (phases.Asks m) (steps.Calls submit_token) (phases.Waits x) t u c d =
-    (m ≡ asked_by x) × (x.node ≡ name_of x.node.node x.ask) × (d.receipts.items ≡ kept c.keep_receipts c.receipts.items) × MakesRoom c m (Calls x) d × (u ≡ t)
+    (m ≡ asked_by x) × (x.node ≡ name_of x.node.node x.ask) × (d.receipts.items ≡ kept c.policy c.receipts.items) × MakesRoom c m (Calls x) d × (u ≡ t)
 Took tells phases.Idle stepped q t u c d = Found q stepped t u × HasNoMore phases.Idle t q u × (d ≡ c)
 Took tells (phases.Waits x) steps.Stays q t u c d = (q ≡ phases.Waits x) × (u ≡ t) × (d ≡ c)
 Took tells (phases.Over why) steps.Stays q t u c d = (q ≡ phases.Over why) × (u ≡ t) × (d ≡ c)

@@ -1,5 +1,5 @@
 -- The two halves of a turn whose call comes back later.
-use Rattle.std.specs.Prelude.{◌≡◌, ◌⊎◌, ◌↔◌, ◌<◌, ◌≤◌, ◌++◌, ◌∷◌, [], ℕ, Bool, List, Result, Ok, Err, length, vec_len, vec_capacity}
+use Rattle.std.specs.Prelude.{◌≡◌, ◌⊎◌, ◌↔◌, ◌<◌, ◌≤◌, ◌++◌, ◌∷◌, [], ℕ, List, Result, Ok, Err, length, vec_len, vec_capacity}
 use Rattle.craq_names.specs.declared.refusal.Refusal.{Refusal}
 use Rattle.craq_names.specs.declared.refusal.Refusal.TheVariants.{Closed, Memory}
 use Rattle.craq_pending_calls.specs.Calls.{IsCallOf}
@@ -10,6 +10,7 @@ use Rattle.craq_frames.specs.declared.answer.ClientReply.TheVariants as replies
 use Rattle.craq_front.specs.Door.{IsAllowed}
 use Rattle.craq_seat.specs.Calls.{Called}
 use Rattle.craq_session.specs.declared.calls.DoorCalls.{DoorCalls}
+use Rattle.craq_session.specs.declared.calls.ReceiptPolicy.{ReceiptPolicy}
 use Rattle.craq_session.specs.declared.call_request.CallRequest.{CallRequest}
 use Rattle.craq_session.specs.declared.call_request.Demand.{Demand}
 use Rattle.craq_session.specs.declared.call_request.Demand.TheVariants as demands
@@ -29,9 +30,9 @@ Asks m demands.Status = m ≡ messages.Status
 
 -- the first half of a turn: it is over with this reply, or a call of a node of the chain of the ask's first object is to be
 -- made, and only the receipts that are not kept went
-abbrev pub BeginsTurn : (List ℕ → Type 0) → Bool → List Called → ClientMessage → Begun → List Called → Type 0
-BeginsTurn tells keep_receipts old message (begun.Reported reply) new = IsTurn tells for_memory keep_receipts old message reply new × IsAllowed reply
-BeginsTurn tells keep_receipts old message (begun.Calls q) new = (message ≡ asked_by q) × (q.node ≡ name_of q.node.node q.ask) × (new ≡ kept keep_receipts old)
+abbrev pub BeginsTurn : (List ℕ → Type 0) → ReceiptPolicy → List Called → ClientMessage → Begun → List Called → Type 0
+BeginsTurn tells policy old message (begun.Reported reply) new = IsTurn tells for_memory policy old message reply new × IsAllowed reply
+BeginsTurn tells policy old message (begun.Calls q) new = (message ≡ asked_by q) × (q.node ≡ name_of q.node.node q.ask) × (new ≡ kept policy old)
 
 -- there is room for one receipt more
 abbrev pub HasRoom : DoorCalls → Type 0
@@ -43,7 +44,7 @@ HasNoRoom calls = vec_capacity calls.receipts ≤ length calls.receipts.items
 
 -- the receipts that a door still has as a turn begins take all the room that there is
 abbrev pub IsFull : DoorCalls → Type 0
-IsFull calls = vec_capacity calls.receipts ≤ length (kept calls.keep_receipts calls.receipts.items)
+IsFull calls = vec_capacity calls.receipts ≤ length (kept calls.policy calls.receipts.items)
 
 -- where a call is to be made there is room for its receipt; the turn of a call is over before it is made only where that room
 -- lacked

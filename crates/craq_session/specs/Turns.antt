@@ -1,5 +1,5 @@
 -- Replies of a store's request handler.
-use Rattle.std.specs.Prelude.{◌≡◌, ◌⊎◌, ℕ, Bool, if◌then◌else◌, List, [], ◌∷◌, ◌++◌, max, Result, Ok, Err}
+use Rattle.std.specs.Prelude.{◌≡◌, ◌⊎◌, ℕ, List, [], ◌∷◌, ◌++◌, max, Result, Ok, Err}
 use Rattle.craq_names.specs.declared.name.NodeName.{NodeName}
 use Rattle.craq_names.specs.declared.refusal.Refusal.{Refusal}
 use Rattle.craq_names.specs.declared.refusal.Refusal.TheVariants.{BadFrame, Memory}
@@ -15,6 +15,8 @@ use Rattle.craq_frames.specs.declared.answer.ClientReply.{ClientReply}
 use Rattle.craq_frames.specs.declared.answer.ClientReply.TheVariants as replies
 use Rattle.craq_front.specs.Door.{IsAllowed}
 use Rattle.craq_seat.specs.Calls.{Called}
+use Rattle.craq_session.specs.declared.calls.ReceiptPolicy.{ReceiptPolicy}
+use Rattle.craq_session.specs.declared.calls.ReceiptPolicy.TheVariants.{KeepAll, KeepNone}
 
 -- the message that asks a node with this pass
 abbrev pub message_of : ℕ → ℕ → Ask → ClientMessage
@@ -33,8 +35,9 @@ pub record IsReplyOf (message : ClientMessage) (reply : ClientReply) (c : Called
   pub answered : reply ≡ reply_of (max c.call.pass c.answered.stamp) c.answer
 
 -- the receipts that a door still has as a turn begins: those of earlier turns, if they are kept
-abbrev pub kept : Bool → List Called → List Called
-kept keep_receipts receipts = if keep_receipts then receipts else []
+abbrev pub kept : ReceiptPolicy → List Called → List Called
+kept KeepAll receipts = receipts
+kept KeepNone receipts = []
 
 -- the reply is that of a call whose receipt came in this turn: it stands behind those that the door had
 abbrev pub IsCalled : List Called → ClientMessage → ClientReply → List Called → Type 0
@@ -87,8 +90,8 @@ IsAnswered tells refuses old message (replies.Refused refusal) new = IsRefused t
 IsAnswered tells refuses old message reply new = IsReplied tells old message reply new
 
 -- a turn of a request handler that keeps its receipts or not. A status has a text of the store, and a call is refused as it may be
-abbrev pub IsTurn : (List ℕ → Type 0) → Refusing → Bool → List Called → ClientMessage → ClientReply → List Called → Type 0
-IsTurn tells refuses keep_receipts old message reply new = IsAnswered tells refuses (kept keep_receipts old) message reply new
+abbrev pub IsTurn : (List ℕ → Type 0) → Refusing → ReceiptPolicy → List Called → ClientMessage → ClientReply → List Called → Type 0
+IsTurn tells refuses policy old message reply new = IsAnswered tells refuses (kept policy old) message reply new
 
 -- the reply is given as it is if a request handler may give it; else it is refused
 abbrev pub IsReplyAllowed : ClientReply → ClientReply → Type 0

@@ -86,9 +86,9 @@ pub(crate) fn begin_turn<C: Backend>(
     calls: &mut DoorCalls,
     message: ClientMessage,
 ) -> Begun
-    ensures begun { BeginsTurn (C.tells backend.now) calls.old.keep_receipts calls.old.receipts.items message result calls.new.receipts.items }
-    ensures keep_receipts { calls.new.keep_receipts ≡ calls.old.keep_receipts }
-    ensures receipts { calls.new.receipts.items ≡ kept calls.old.keep_receipts calls.old.receipts.items }
+    ensures begun { BeginsTurn (C.tells backend.now) calls.old.policy calls.old.receipts.items message result calls.new.receipts.items }
+    ensures policy { calls.new.policy ≡ calls.old.policy }
+    ensures receipts { calls.new.receipts.items ≡ kept calls.old.policy calls.old.receipts.items }
     ensures room { MakesRoom calls.old message result calls.new }
 {
     calls.begin();
@@ -122,7 +122,7 @@ fn reply_of_call(
     ensures closed { (result ≡ Err Refusal.Closed) ↔ IsClosed request.now outcome }
     ensures same { OnErr result (calls.new.receipts.items ≡ calls.old.receipts.items) }
     ensures own { HasOwnReceipt outcome calls.old.receipts.items calls.new.receipts.items }
-    ensures keep_receipts { calls.new.keep_receipts ≡ calls.old.keep_receipts }
+    ensures policy { calls.new.policy ≡ calls.old.policy }
 {
     let receipt = outcome?;
     let CallRequest { node, pass, ask } = request;
@@ -149,7 +149,7 @@ pub(crate) fn end_turn(
     requires { HasRoom calls.old }
     ensures ends { EndsTurn request.now outcome calls.old.receipts.items result calls.new.receipts.items }
     ensures allowed { IsAllowed result }
-    ensures keep_receipts { calls.new.keep_receipts ≡ calls.old.keep_receipts }
+    ensures policy { calls.new.policy ≡ calls.old.policy }
 {
     reported(reply_of_call(alloc, calls, request, outcome))
 }

@@ -11,11 +11,20 @@ use craq_pending_calls::pass_after;
 use craq_seat::CallReceipt;
 use std::alloc::{AllocError, Global};
 
+/// The receipts that a request handler has of its earlier requests.
+#[derive(Debug, Clone, Copy, PartialEq, Eq)]
+pub enum ReceiptPolicy {
+    /// All are kept, in order, and handed over at the end.
+    KeepAll,
+    /// Each is dropped as the next request begins, and at the end.
+    KeepNone,
+}
+
 /// The calls of one request handler.
 #[derive(Drop)]
 pub struct DoorCalls {
-    /// True where the receipts of earlier requests are kept.
-    pub(crate) keep_receipts: bool,
+    /// The fate of the receipts of earlier requests.
+    pub(crate) policy: ReceiptPolicy,
     /// The receipts of the calls, in order: of all requests where they are kept, else of the last
     /// one. Only a desk makes receipts, and they are not copied, so one more receipt is that of one
     /// more call.
@@ -38,31 +47,32 @@ fn reply_of(answer: Answer, pass: Pass) -> ClientReply
 
 impl DoorCalls {
     /// Makes an empty list of calls. Takes no memory.
-    pub(crate) fn new(alloc: Global, keep_receipts: bool) -> Self
-        ensures keep_receipts { result.keep_receipts ≡ keep_receipts }
+    pub(crate) fn new(alloc: Global, policy: ReceiptPolicy) -> Self
+        ensures policy { result.policy ≡ policy }
         ensures receipts { result.receipts.items ≡ [] }
     {
         DoorCalls {
-            keep_receipts,
+            policy,
             receipts: Vec::new(alloc),
         }
     }
 
     /// Begins a request: drops the receipts of earlier ones unless they are kept. Takes no memory.
     pub(crate) fn begin(&mut self)
-        ensures keep_receipts { self.new.keep_receipts ≡ self.old.keep_receipts }
-        ensures receipts { self.new.receipts.items ≡ kept self.old.keep_receipts self.old.receipts.items }
+        ensures policy { self.new.policy ≡ self.old.policy }
+        ensures receipts { self.new.receipts.items ≡ kept self.old.policy self.old.receipts.items }
         ensures capacity { vec_capacity self.new.receipts ≡ vec_capacity self.old.receipts }
     {
-        if !self.keep_receipts {
-            self.receipts.clear();
+        match self.policy {
+            ReceiptPolicy::KeepAll => {}
+            ReceiptPolicy::KeepNone => self.receipts.clear(),
         }
     }
 
     /// Makes room for the receipt of one more call. Fails only when out of memory. The receipts are
     /// unchanged in either case.
     pub(crate) fn make_room(&mut self) -> Result<(), AllocError>
-        ensures keep_receipts { self.new.keep_receipts ≡ self.old.keep_receipts }
+        ensures policy { self.new.policy ≡ self.old.policy }
         ensures receipts { self.new.receipts.items ≡ self.old.receipts.items }
         ensures room { OnOk result (HasRoom self.new) }
         ensures full { OnErr result (HasNoRoom self.old) }
@@ -77,7 +87,7 @@ impl DoorCalls {
     pub(crate) fn reply_to(&mut self, answer: Answer, receipt: CallReceipt) -> ClientReply
         requires answered { answer ≡ receipt.answer }
         requires room { HasRoom self.old }
-        ensures keep_receipts { self.new.keep_receipts ≡ self.old.keep_receipts }
+        ensures policy { self.new.policy ≡ self.old.policy }
         ensures reply { IsReplyOf (message_of receipt.call.asked.node receipt.call.pass receipt.call.ask) result receipt }
         ensures receipts { self.new.receipts.items ≡ self.old.receipts.items ++ receipt ∷ [] }
     {
@@ -89,15 +99,18 @@ impl DoorCalls {
     /// Returns the receipts of all calls, in order, where they are kept; else none. Takes no
     /// memory.
     pub fn into_receipts(self) -> Vec<CallReceipt>
-        ensures { result.items ≡ kept self.keep_receipts self.receipts.items }
+        ensures { result.items ≡ kept self.policy self.receipts.items }
     {
         let DoorCalls {
-            keep_receipts,
+            policy,
             mut receipts,
         } = self;
-        if !keep_receipts {
-            receipts.clear();
+        match policy {
+            ReceiptPolicy::KeepAll => receipts,
+            ReceiptPolicy::KeepNone => {
+                receipts.clear();
+                receipts
+            }
         }
-        receipts
     }
 }

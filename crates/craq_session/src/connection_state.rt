@@ -6,7 +6,7 @@ ghost use Rattle.craq_session.specs.ConnectionStates.{KeepsRoom};
 
 use crate::asking::submit_call;
 use crate::phases::{advance, answered};
-use crate::{AsyncBackend, Backend, CallRequest, DoorCalls, Load, UnsentCall};
+use crate::{AsyncBackend, Backend, CallRequest, DoorCalls, Load, ReceiptPolicy, UnsentCall};
 use craq_completions::{Outcome, Token};
 use craq_frames::ClientMessage;
 use craq_front::ProtocolCodec;
@@ -81,19 +81,19 @@ impl<T> ConnectionState<T> {
     ghost use Rattle.craq_session.specs.Asking.{IsAsked, IsOutcome, called_by};
     ghost use Rattle.craq_session.specs.ConnectionStates.{AnswersCall, Holds, IsUnderWay, Took, ending_of};
 
-    /// Makes the state of a new connection with its session. `keep_receipts`: whether the receipts
-    /// of its calls are kept. Takes no memory.
-    pub fn new(alloc: Global, session: T, keep_receipts: bool) -> Self
+    /// Makes the state of a new connection with its session and the policy for its receipts. Takes
+    /// no memory.
+    pub fn new(alloc: Global, session: T, policy: ReceiptPolicy) -> Self
         ensures holds { Holds result.phase result.codec [] [] [] }
         ensures input { result.codec.buffers.input.items ≡ [] }
-        ensures keep_receipts { result.calls.keep_receipts ≡ keep_receipts }
+        ensures policy { result.calls.policy ≡ policy }
         ensures receipts { result.calls.receipts.items ≡ [] }
         ensures phase { result.phase ≡ Phase.Idle }
         ensures session { result.session ≡ session }
     {
         ConnectionState {
             codec: ProtocolCodec::new(alloc),
-            calls: DoorCalls::new(alloc, keep_receipts),
+            calls: DoorCalls::new(alloc, policy),
             phase: Phase::Idle,
             session,
         }
@@ -179,7 +179,7 @@ impl<T> ConnectionState<T> {
     /// when out of memory; nothing more is appended then.
     pub fn step<C: Backend>(&mut self, alloc: Global, backend: &C) -> Stepped
         ensures took { Took (C.tells backend.now) self.old.phase result self.new.phase self.old.codec self.new.codec self.old.calls self.new.calls }
-        ensures keep_receipts { self.new.calls.keep_receipts ≡ self.old.calls.keep_receipts }
+        ensures policy { self.new.calls.policy ≡ self.old.calls.policy }
         ensures session { self.new.session ≡ self.old.session }
     {
         let phase = mem::replace(&mut self.phase, Phase::Idle);
@@ -234,7 +234,7 @@ impl<T> ConnectionState<T> {
     /// the reply it is over, and nothing is appended. Unchanged where no call is under way.
     pub fn answer(&mut self, alloc: Global, outcome: Outcome)
         ensures answers { AnswersCall self.old.phase outcome self.new.phase self.old.codec self.new.codec self.old.calls self.new.calls }
-        ensures keep_receipts { self.new.calls.keep_receipts ≡ self.old.calls.keep_receipts }
+        ensures policy { self.new.calls.policy ≡ self.old.calls.policy }
         ensures session { self.new.session ≡ self.old.session }
     {
         let phase = mem::replace(&mut self.phase, Phase::Idle);
@@ -249,7 +249,7 @@ impl<T: Drop> ConnectionState<T> {
     /// Returns the receipts of all calls, in order, where they are kept; else none. Takes no
     /// memory.
     pub fn into_receipts(self) -> Vec<CallReceipt>
-        ensures { result.items ≡ kept self.calls.keep_receipts self.calls.receipts.items }
+        ensures { result.items ≡ kept self.calls.policy self.calls.receipts.items }
     {
         let ConnectionState {
             codec,

@@ -7,7 +7,7 @@ ghost use Rattle.craq_session.specs.Turns.{IsTurn, kept, or_memory_where};
 
 use crate::asking::submit_call;
 use crate::call_request::{Begun, begin_turn, end_turn};
-use crate::{BlockingBackend, CallRequest, DoorCalls, Load, UnsentCall};
+use crate::{BlockingBackend, CallRequest, DoorCalls, Load, ReceiptPolicy, UnsentCall};
 use craq_completions::{Outcome, Token};
 use craq_frames::{ClientMessage, ClientReply};
 use craq_front::Door;
@@ -35,10 +35,10 @@ pub struct CallDoor<C, T> {
 }
 
 impl<C: BlockingBackend<Session = T>, T> CallDoor<C, T> {
-    /// Makes the request handler of the connection at this place, which has the session and has
-    /// had no call. Takes no memory.
-    pub fn new(alloc: Global, backend: C, session: T, slot: usize, keep_receipts: bool) -> Self
-        ensures keep_receipts { result.calls.keep_receipts ≡ keep_receipts }
+    /// Makes the request handler of the connection at this place, with its session and the policy
+    /// for its receipts. It has had no call. Takes no memory.
+    pub fn new(alloc: Global, backend: C, session: T, slot: usize, policy: ReceiptPolicy) -> Self
+        ensures policy { result.calls.policy ≡ policy }
         ensures receipts { result.calls.receipts.items ≡ [] }
         ensures session { result.session ≡ session }
         ensures backend { result.backend ≡ backend }
@@ -47,7 +47,7 @@ impl<C: BlockingBackend<Session = T>, T> CallDoor<C, T> {
             alloc,
             backend,
             session,
-            calls: DoorCalls::new(alloc, keep_receipts),
+            calls: DoorCalls::new(alloc, policy),
             slot,
         }
     }
@@ -73,9 +73,9 @@ impl<C: BlockingBackend<Session = T>, T> CallDoor<C, T> {
 
 impl<C: BlockingBackend<Session = T>, T> Door for CallDoor<C, T> {
     ghost turn = { λ old message reply new.
-        IsTurn (C.tells old.backend) (or_memory_where (IsFull old.calls) (C.refuses old.backend)) old.calls.keep_receipts old.calls.receipts.items message reply new.calls.receipts.items
-        × HasAsked (C.submits old.backend only_token) (C.finishes old.backend) message old.session (kept old.calls.keep_receipts old.calls.receipts.items) reply new.calls.receipts.items new.session
-        × (new.calls.keep_receipts ≡ old.calls.keep_receipts) × (new.backend ≡ old.backend) };
+        IsTurn (C.tells old.backend) (or_memory_where (IsFull old.calls) (C.refuses old.backend)) old.calls.policy old.calls.receipts.items message reply new.calls.receipts.items
+        × HasAsked (C.submits old.backend only_token) (C.finishes old.backend) message old.session (kept old.calls.policy old.calls.receipts.items) reply new.calls.receipts.items new.session
+        × (new.calls.policy ≡ old.calls.policy) × (new.backend ≡ old.backend) };
 
     fn ask(&mut self, message: ClientMessage) -> ClientReply {
         match begin_turn(&self.backend, &mut self.calls, message) {

@@ -15,6 +15,6 @@ mod telling;
 pub use asking::{Load, SubmitToken, UnsentCall};
 pub use backend::{AsyncBackend, Backend, BlockingBackend};
 pub use call_request::CallRequest;
-pub use calls::DoorCalls;
+pub use calls::{DoorCalls, ReceiptPolicy};
 pub use connection_state::{ConnectionState, Ending, Stepped};
 pub use door::CallDoor;

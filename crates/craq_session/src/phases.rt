@@ -62,7 +62,7 @@ fn begin<C: Backend>(
     message: ClientMessage,
 ) -> (Phase, Stepped)
     ensures took { Took (C.tells backend.now) (Phase.Asks message) result.1 result.0 codec.old codec.new calls.old calls.new }
-    ensures keep_receipts { calls.new.keep_receipts ≡ calls.old.keep_receipts }
+    ensures policy { calls.new.policy ≡ calls.old.policy }
     ensures idle { result.0 ≡ Phase.Idle → codec.new.asking ≡ None }
     ensures room { KeepsRoom result.0 calls.new }
 {
@@ -83,7 +83,7 @@ pub(crate) fn advance<C: Backend>(
     requires idle { phase ≡ Phase.Idle → codec.old.asking ≡ None }
     requires room { KeepsRoom phase calls.old }
     ensures took { Took (C.tells backend.now) phase result.1 result.0 codec.old codec.new calls.old calls.new }
-    ensures keep_receipts { calls.new.keep_receipts ≡ calls.old.keep_receipts }
+    ensures policy { calls.new.policy ≡ calls.old.policy }
     ensures idle { result.0 ≡ Phase.Idle → codec.new.asking ≡ None }
     ensures room { KeepsRoom result.0 calls.new }
 {
@@ -106,7 +106,7 @@ pub(crate) fn answered(
     requires idle { phase ≡ Phase.Idle → codec.old.asking ≡ None }
     requires room { KeepsRoom phase calls.old }
     ensures answers { AnswersCall phase outcome result codec.old codec.new calls.old calls.new }
-    ensures keep_receipts { calls.new.keep_receipts ≡ calls.old.keep_receipts }
+    ensures policy { calls.new.policy ≡ calls.old.policy }
     ensures idle { result ≡ Phase.Idle → codec.new.asking ≡ None }
     ensures room { KeepsRoom result calls.new }
 {

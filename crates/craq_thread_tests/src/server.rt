@@ -9,7 +9,9 @@ use crate::gate::{TestGate, Tested, start_store};
 use craq_audit::Audit;
 use craq_names::Refusal;
 use craq_seat::CallReceipt;
-use craq_server::{Connections, EventLoops, Log, ServeReport, Serving, accept, accept_with};
+use craq_server::{
+    Connections, EventLoops, Log, ReceiptPolicy, ServeReport, Serving, accept, accept_with,
+};
 use craq_workers::{Named, OpenGate, OpenedHistory, open_history};
 use std::alloc::{AllocError, Global};
 use std::marker::Brand;
@@ -93,7 +95,7 @@ where
     R: Net<Listener = TcpListener, Stream = TcpStream>,
 {
     let serving = Serving {
-        keep_receipts: true,
+        receipts: ReceiptPolicy::KeepAll,
         connections: CONNECTIONS,
         threads: THREADS,
         idle: 0,
@@ -102,7 +104,7 @@ where
     };
     let connections = Connections::new(rt.alloc(), CONNECTIONS)?;
     let event_loops = EventLoops::new(&rt, rt.alloc(), serving)?;
-    let served = accept_with(rt, rt.alloc(), store, listener, &connections, event_loops)?;
+    let served = accept_with(rt, store, listener, &connections, event_loops)?;
     let ServeReport {
         receipts,
         had_failures,

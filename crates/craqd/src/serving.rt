@@ -13,7 +13,9 @@ use crate::telling::{Ports, tell_serving};
 use crate::ticking::tick_chains;
 use craq_cli::Line;
 use craq_compact_history::ListCore;
-use craq_server::{Connections, EventLoops, Log, ServeReport as Accepted, Serving, accept_with};
+use craq_server::{
+    Connections, EventLoops, Log, ReceiptPolicy, ServeReport as Accepted, Serving, accept_with,
+};
 use craq_workers::{At, Named, OpenGate, OpenedHistory, Store, open_history};
 use std::alloc::AllocError;
 use std::io::{ErrorKind, Input, StdinLock};
@@ -116,14 +118,7 @@ where
     /// what it needs, cannot be made; no connection was taken then.
     fn accept(&self, event_loops: EventLoops) -> Result<Accepted, AllocError> {
         let (store, connections) = (self.store, self.connections);
-        accept_with(
-            self.rt,
-            self.rt.alloc(),
-            store,
-            self.listener,
-            connections,
-            event_loops,
-        )
+        accept_with(self.rt, store, self.listener, connections, event_loops)
     }
 
     /// Prints the port that clients can connect to once all that the server needs has been made,
@@ -261,13 +256,24 @@ const fn log_of(line: &Line<'_>) -> Log
     if line.log { Log::Lines } else { Log::Silent }
 }
 
+/// Returns the fate of receipts that a command line asks for: they are kept where journals are.
+const fn policy_of(line: &Line<'_>) -> ReceiptPolicy
+    ensures { result ≡ (if line.now.journal then ReceiptPolicy.KeepAll else ReceiptPolicy.KeepNone) }
+{
+    if line.journal {
+        ReceiptPolicy::KeepAll
+    } else {
+        ReceiptPolicy::KeepNone
+    }
+}
+
 /// Returns how connections are served as a command line asks for. Receipts are kept where journals
 /// are.
 const fn serving_of(line: &Line<'_>) -> Serving
-    ensures { result ≡ record { keep_receipts = line.now.journal; connections = line.now.connections; threads = line.now.threads; idle = line.now.idle; most_leap = line.now.most_leap; log = if line.now.log then Log.Lines else Log.Silent } }
+    ensures { result ≡ record { receipts = if line.now.journal then ReceiptPolicy.KeepAll else ReceiptPolicy.KeepNone; connections = line.now.connections; threads = line.now.threads; idle = line.now.idle; most_leap = line.now.most_leap; log = if line.now.log then Log.Lines else Log.Silent } }
 {
     Serving {
-        keep_receipts: line.journal,
+        receipts: policy_of(line),
         connections: line.connections,
         threads: line.threads,
         idle: line.idle,

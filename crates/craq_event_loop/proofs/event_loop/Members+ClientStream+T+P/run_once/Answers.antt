@@ -41,10 +41,10 @@ returns-clause-behind g c =
       | inl same ↦ inl (ap (λ m. m.behind.items) same)
       | inr none ↦ inr none
     ] in
-    let up : MoveUp c.args.self.now.behind.items c.round.new.self.behind.items =
+    let up : MoveUp c.args.shares c.args.self.now.behind.items c.round.new.self.behind.items =
     elim c.if-self-gt0.branch [
-      | then-self-gt0 w ↦ subst (λ (x : List ℕ). MoveUp x c.round.new.self.behind.items) (ap (λ v. v.items) w.look_for_idle.ensures.behind)
-          (subst (λ m. MoveUp m.behind.items c.round.new.self.behind.items) w.self-is c.round.ensures.behind)
-      | else-self-gt0 w ↦ subst (λ m. MoveUp m.behind.items c.round.new.self.behind.items) w.self-is c.round.ensures.behind
+      | then-self-gt0 w ↦ subst (λ (x : List ℕ). MoveUp c.args.shares x c.round.new.self.behind.items) (ap (λ v. v.items) w.look_for_idle.ensures.behind)
+          (subst (λ m. MoveUp c.args.shares m.behind.items c.round.new.self.behind.items) w.self-is c.round.ensures.behind)
+      | else-self-gt0 w ↦ subst (λ m. MoveUp c.args.shares m.behind.items c.round.new.self.behind.items) w.self-is c.round.ensures.behind
     ] in
-    moved_again c.args.self.now.behind.items c.round.new.self.behind.items c.round_again.new.self.behind.items up none_again
+    moved_again c.args.shares c.args.self.now.behind.items c.round.new.self.behind.items c.round_again.new.self.behind.items up none_again

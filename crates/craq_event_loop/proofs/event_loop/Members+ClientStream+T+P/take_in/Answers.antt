@@ -17,8 +17,8 @@ returns-in_err-reserve-3-clause-kept g c k = record {
       (same_values c.args.self.now.connections c.reserve-3.new.self (same_slots c.args.self.now.connections c.reserve-3.new.self c.reserve-3.ensures.rest_kept)) k.behind;
 }
 
-pub returns-in_default-open-clause-kept : goal.returns-in_default-open-clause-kept
-returns-in_default-open-clause-kept g c k = record {
+pub returns-then-is_err-clause-kept : goal.returns-then-is_err-clause-kept
+returns-then-is_err-clause-kept g c k = record {
   listed =
       listed_grown c.args.self.now.connections c.reserve-3.new.self c.args.self.now.busy c.reserve.new.self c.args.self.now.behind c.reserve-2.new.self k.listed
       (same_slots c.args.self.now.connections c.reserve-3.new.self c.reserve-3.ensures.rest_kept)
@@ -38,9 +38,9 @@ returns-clause-kept g c k =
     record {
       listed = c.wake.ensures.listed (
           listed_more_room c.args.self.now.connections c.reserve-3.new.self c.insert_reserved-key.new.self c.args.self.now.busy c.reserve.new.self
-          c.args.self.now.behind c.reserve-2.new.self c.insert_reserved-key.result c.in-Ok.connection k.listed same
+          c.args.self.now.behind c.reserve-2.new.self c.insert_reserved-key.result c.new-connection.result k.listed same
           c.reserve.ensures.items c.reserve-2.ensures.items c.reserve.ensures.capacity c.reserve-2.ensures.capacity
-          c.insert_reserved-key.ensures.was_vacant c.insert_reserved-key.ensures.updates.changed c.in-Ok.ensures.is_new.unmarked
+          c.insert_reserved-key.ensures.was_vacant c.insert_reserved-key.ensures.updates.changed c.new-connection.ensures.is_new.unmarked
           c.insert_reserved-key.ensures.updates.others room room_behind);
       behind =
           behind_taken c.args.self.now.connections c.reserve-3.new.self c.insert_reserved-key.new.self c.wake.new.self.connections c.insert_reserved-key.result
@@ -56,20 +56,20 @@ returns-clause-taken g c k =
     let room_behind : slab_len c.insert_reserved-key.new.self ≤ deque_capacity c.reserve-2.new.self = omega (arith, count, c.in_ok-reserve-2.ensures.ok) in
     record {
       key = c.insert_reserved-key.result;
-      connection = c.in-Ok.connection;
+      connection = c.new-connection.result;
       was_vacant = sym (same_values c.args.self.now.connections c.reserve-3.new.self same c.insert_reserved-key.result) ∙ c.insert_reserved-key.ensures.was_vacant;
-      is_new = c.in-Ok.ensures.is_new;
-      came_as = c.in-Ok.ensures.arrival;
-      here = c.wake.ensures.wakes c.in-Ok.connection c.insert_reserved-key.ensures.updates.changed;
+      is_new = c.new-connection.ensures.is_new;
+      came_as = c.new-connection.ensures.arrival;
+      here = c.wake.ensures.wakes c.new-connection.result c.insert_reserved-key.ensures.updates.changed;
       listed =
           c.wake.ensures.busy (
           listed_more_room c.args.self.now.connections c.reserve-3.new.self c.insert_reserved-key.new.self c.args.self.now.busy c.reserve.new.self
-          c.args.self.now.behind c.reserve-2.new.self c.insert_reserved-key.result c.in-Ok.connection k.listed same
+          c.args.self.now.behind c.reserve-2.new.self c.insert_reserved-key.result c.new-connection.result k.listed same
           c.reserve.ensures.items c.reserve-2.ensures.items c.reserve.ensures.capacity c.reserve-2.ensures.capacity
-          c.insert_reserved-key.ensures.was_vacant c.insert_reserved-key.ensures.updates.changed c.in-Ok.ensures.is_new.unmarked
+          c.insert_reserved-key.ensures.was_vacant c.insert_reserved-key.ensures.updates.changed c.new-connection.ensures.is_new.unmarked
           c.insert_reserved-key.ensures.updates.others room room_behind)
-          ∙ key_comes c.reserve.new.self.items c.insert_reserved-key.result (get c.insert_reserved-key.new.self c.insert_reserved-key.result) c.in-Ok.connection
-          c.insert_reserved-key.ensures.updates.changed c.in-Ok.ensures.is_new.unmarked
+          ∙ key_comes c.reserve.new.self.items c.insert_reserved-key.result (get c.insert_reserved-key.new.self c.insert_reserved-key.result) c.new-connection.result
+          c.insert_reserved-key.ensures.updates.changed c.new-connection.ensures.is_new.unmarked
           ∙ ap (λ (keys : List ℕ). keys ++ c.insert_reserved-key.result ∷ []) c.reserve.ensures.items;
       behind = ap (λ v. v.items) c.wake.ensures.behind ∙ c.reserve-2.ensures.items;
       others = λ other differs.

@@ -1,4 +1,4 @@
-//! Tests of the objects that a command names: their chain, for `craq_admission`, and exhausted
+//! Tests of the objects that a command names: their chain, for `craq_node`, and exhausted
 //! versions, for `craq_write`.
 ghost use Rattle.std.specs.Prelude.{◌≡◌, ◌==◌, map};
 ghost use Rattle.std.specs.List.{list_all, list_any};

@@ -1,3 +1,4 @@
+pub mod Ignored
 pub mod Transitions
 pub mod Kept
 pub mod Remembered

@@ -8,7 +8,7 @@ use Rattle.craq_model.specs.Plain.{Plain}
 use Rattle.craq_names.specs.declared.refusal.Refusal.{Refusal}
 use Rattle.craq_model.specs.Deliveries.{delivery_transition}
 use Rattle.craq_model.specs.Node.{event_transition, node_step, outs_fit}
-use Rattle.craq_admission.specs.Admitted.{uncounted_step}
+use Rattle.craq_node.specs.Admitted.{uncounted_step}
 use Rattle.craq_model.specs.Settle.{Transition}
 use Rattle.craq_node.specs.Represented.{StepGives, IsFree}
 use Rattle.craq_write.specs.Sent.{LacksOrOutgrows}

@@ -12,7 +12,7 @@ ghost use Rattle.craq_history.specs.Change.{changed, no_change};
 ghost use Rattle.craq_history.specs.Nodes.{plain_of};
 ghost use Rattle.craq_history.specs.Effects.{CanMake};
 ghost use Rattle.craq_node_invariant.specs.Sound.{IsSound, IsEncodableAsk};
-ghost use Rattle.craq_admission.specs.Admitted.{IsAdmittedAsk, is_heeded};
+ghost use Rattle.craq_node.specs.Admitted.{IsAdmittedAsk, is_heeded};
 ghost use Rattle.craq_write.specs.Gathered.{IsInOrder, IsOrdered};
 ghost use Rattle.craq_write.specs.Settling.{IsIdle};
 ghost use Rattle.craq_node.specs.Represented.{StepGives, LeadsToSound};

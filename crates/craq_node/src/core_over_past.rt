@@ -10,12 +10,13 @@ ghost use Rattle.craq_node_invariant.specs.Sound.{AreEncodable, IsSound, IsEncod
 ghost use Rattle.craq_node_invariant.proofs.Props.{IsSound-prop};
 ghost use Rattle.craq_compaction.specs.Compacted.{remembered};
 ghost use Rattle.craq_history.specs.Nodes.{plain_of};
-ghost use Rattle.craq_admission.specs.Admitted.{IsAdmitted};
+ghost use Rattle.craq_node.specs.Admitted.{IsAdmitted};
 ghost use Rattle.craq_node.specs.Represented.{StepAnswers, CanArrive, StepGives, IsFree, IsRemembered, plain_at};
 
 use crate::Core;
+use crate::admitting::admit;
 use crate::computing::{commit_change, compute_ask, deliver_current};
-use craq_admission::{admit, is_heeded};
+use crate::heeding::is_heeded;
 use craq_commands::Command;
 use craq_epochs::{Config, Switch};
 use craq_history::steps::{done, ignoring};

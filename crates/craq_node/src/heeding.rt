@@ -3,7 +3,7 @@ ghost use Rattle.std.specs.Prelude.{◌≡◌, false};
 ghost use Rattle.craq_history.specs.Nodes.{plain_of};
 ghost use Rattle.craq_model.specs.Deliveries.{delivery_transition};
 ghost use Rattle.craq_model.specs.Settle.{transition_ignoring};
-ghost use Rattle.craq_admission.specs.Admitted.{is_heeded};
+ghost use Rattle.craq_node.specs.Admitted.{is_heeded};
 
 use craq_history::{History, Node};
 use craq_model::{Body, LinkMessage, Why};

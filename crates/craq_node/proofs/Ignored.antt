@@ -7,7 +7,7 @@ use Rattle.craq_model.specs.declared.step.Why.TheVariants.{OtherEpoch}
 use Rattle.craq_model.specs.Deliveries.{body_transition, delivery_transition}
 use Rattle.craq_model.specs.Plain.{Plain}
 use Rattle.craq_model.specs.Settle.{transition_ignoring}
-use Rattle.craq_admission.specs.Admitted.{is_heeded, tells_membership}
+use Rattle.craq_node.specs.Admitted.{is_heeded, tells_membership}
 use Rattle.std.specs.Prelude.{◌==◌, ◌||◌}
 
 body_ignored : (p : Plain) (m : LinkMessage) (b : Body) → (tells_membership b || (m.epoch == p.epoch)) ≡ false → body_transition p m b ≡ transition_ignoring p OtherEpoch

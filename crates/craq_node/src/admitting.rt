@@ -1,7 +1,7 @@
 //! Admission of an event at a node, before any rule applies. `NodeCore` calls this first.
 ghost use Rattle.std.specs.Prelude.{◌≡◌};
 ghost use Rattle.craq_history.specs.Nodes.{plain_of};
-ghost use Rattle.craq_admission.specs.Admitted.{Admits, AdmitsAsk};
+ghost use Rattle.craq_node.specs.Admitted.{Admits, AdmitsAsk};
 
 use craq_epochs::Switch;
 use craq_history::members::first_member;

@@ -1,1 +1,4 @@
+pub mod Calls
+pub mod Refused
+pub mod Sorted
 pub mod Queues

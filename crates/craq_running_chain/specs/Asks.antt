@@ -1,6 +1,6 @@
 -- The outcome of a request that is put to a node of a running store.
 use Rattle.std.specs.Prelude.{◌≡◌, ◌⊎◌, ℕ, Bool, false, [], Option, Some, None, Result, Ok, Err}
-use Rattle.craq_pending_calls.specs.Refused.{IsUpdate}
+use Rattle.craq_completions.specs.Refused.{IsUpdate}
 use Rattle.craq_completions.specs.declared.token.Token.{Token}
 use Rattle.craq_model.specs.declared.ask.Ask.{Ask}
 use Rattle.craq_model.specs.Plain.{Plain}

@@ -1,7 +1,7 @@
 //! `Shared`: the state that all threads of a store share. Sends messages and serves one request;
 //! called by `batch`, `chain_thread`, `work`, and the store and clients of `craq_workers`.
 ghost use Rattle.std.specs.Prelude.{◌≡◌, ◌⊎◌, ◌<◌, ◌≤◌, IfErr, IfOk, MatchResult, None, OnOk, Some, false, length, slice_get};
-ghost use Rattle.craq_pending_calls.specs.Refused.{CanRefuse, IsUpdate};
+ghost use Rattle.craq_completions.specs.Refused.{CanRefuse, IsUpdate};
 ghost use Rattle.craq_running_chain.specs.Missed.{IsMissed};
 ghost use Rattle.craq_running_chain.specs.Asks.{IsPut, IsServed, IsRejected};
 ghost use Rattle.craq_running_node.specs.Replies.{in_hand};
@@ -9,12 +9,11 @@ ghost use Rattle.craq_running_node.specs.Replies.{in_hand};
 use crate::batch::NodeBatch;
 use crate::chain::Chain;
 use crate::chain_thread::run_inline;
-use craq_completions::CompletionSender;
+use craq_completions::{CompletionSender, is_update, refusal_of_call};
 use craq_ghost_history::{Named, Registrar};
 use craq_model::Ask;
 use craq_names::{ChainId, NodeId, NodeName, Refusal};
 use craq_node::Core;
-use craq_pending_calls::{is_update, refusal_of_call};
 use craq_running_node::{
     Asked, CallRefusal, Delivery, Gate, OwnAsk, OwnReply, QueuedAsk, RunningNode, Work, refuse_own,
 };

@@ -8,7 +8,7 @@ use Rattle.craq_names.specs.declared.refusal.Refusal.TheVariants as refusals
 use Rattle.craq_names.specs.declared.refusal.Refusal.TheVariants.{Closed}
 use Rattle.craq_model.specs.declared.ask.Ask.{Ask}
 use Rattle.craq_model.specs.declared.ask.Ask.TheVariants as asks
-use Rattle.craq_pending_calls.specs.Refused.{CanRefuse}
+use Rattle.craq_completions.specs.Refused.{CanRefuse}
 use Rattle.craq_seat.specs.Calls.{Called}
 use Rattle.craq_store_history.specs.declared.entry.CallId.{CallId}
 use Rattle.craq_store_history.specs.Chains.{IsHistory}

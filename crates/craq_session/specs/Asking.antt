@@ -3,7 +3,7 @@ use Rattle.std.specs.Prelude.{◌≡◌, Option, None, Some, Result, Ok, Err, If
 use Rattle.craq_completions.specs.declared.token.Token.{Token}
 use Rattle.craq_names.specs.declared.refusal.Refusal.{Refusal}
 use Rattle.craq_model.specs.declared.ask.Ask.{Ask}
-use Rattle.craq_pending_calls.specs.Refused.{CanRefuse}
+use Rattle.craq_completions.specs.Refused.{CanRefuse}
 use Rattle.craq_seat.specs.Calls.{Called}
 use Rattle.craq_session.specs.Turns.{Refusing}
 use Rattle.craq_session.specs.declared.connection_state.Phase.{Phase}

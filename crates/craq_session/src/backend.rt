@@ -5,7 +5,7 @@ ghost use Rattle.craq_completions.specs.declared.token.Token.{Token};
 ghost use Rattle.craq_model.specs.declared.ask.Ask.{Ask};
 ghost use Rattle.craq_names.specs.declared.name.NodeName.{NodeName};
 ghost use Rattle.craq_names.specs.declared.refusal.Refusal.{Refusal};
-ghost use Rattle.craq_pending_calls.specs.Refused.{CanRefuse};
+ghost use Rattle.craq_completions.specs.Refused.{CanRefuse};
 ghost use Rattle.craq_seat.specs.Calls.{Called};
 ghost use Rattle.craq_session.specs.Asking.{MayHaveAny, at_once};
 ghost use Rattle.craq_session.specs.declared.call_request.CallRequest.{CallRequest};

@@ -7,10 +7,10 @@ ghost use Rattle.craq_session.specs.Halves.{Asks, BeginsTurn, EndsTurn, HasOwnRe
 
 use crate::telling::reported;
 use crate::{Backend, DoorCalls};
+use craq_completions::answer_of_call;
 use craq_frames::{ClientMessage, ClientReply};
 use craq_model::Ask;
 use craq_names::{NodeId, NodeName, Pass, Refusal};
-use craq_pending_calls::answer_of_call;
 use craq_seat::CallReceipt;
 use std::alloc::Global;
 

@@ -4,10 +4,10 @@ ghost use Rattle.std.specs.Prelude.{◌≡◌, ◌≤◌, [], ◌∷◌, ◌++�
 ghost use Rattle.craq_session.specs.Halves.{HasNoRoom, HasRoom};
 ghost use Rattle.craq_session.specs.Turns.{IsReplyOf, kept, message_of, reply_of};
 
+use craq_completions::pass_after;
 use craq_frames::ClientReply;
 use craq_model::Answer;
 use craq_names::Pass;
-use craq_pending_calls::pass_after;
 use craq_seat::CallReceipt;
 use std::alloc::{AllocError, Global};
 

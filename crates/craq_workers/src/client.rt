@@ -3,8 +3,8 @@
 ghost use Rattle.std.specs.Prelude.{◌≡◌, ◌<◌, ◌⊎◌, ◌≤◌, ◌↔◌, List, Some, max, Err, IfErr, IfOk, Ok, OnErr, length};
 ghost use mathlib.Core.List.{IsPrefix};
 ghost use Rattle.craq_ghost_history.specs.Histories.{AreComparable};
-ghost use Rattle.craq_pending_calls.specs.Calls.{IsCallOf};
-ghost use Rattle.craq_pending_calls.specs.Refused.{CanRefuse};
+ghost use Rattle.craq_completions.specs.Calls.{IsCallOf};
+ghost use Rattle.craq_completions.specs.Refused.{CanRefuse};
 ghost use Rattle.craq_store_history.specs.declared.entry.Entry.{Entry};
 ghost use Rattle.craq_store_history.specs.Chains.{IsHistory};
 ghost use Rattle.craq_store_parts.specs.Recorded.{HasAccepted, HasReplied};
@@ -14,12 +14,11 @@ ghost use Rattle.craq_workers.specs.Clients.{RefusesAsk};
 ghost use Rattle.craq_running_chain.specs.Missed.{IsMissed};
 ghost use Rattle.craq_workers.specs.Untaken.{IsGivenUp, IsUntaken, LeavesOpen};
 
-use craq_completions::{Completion, CompletionQueue, Token};
+use craq_completions::{Completion, CompletionQueue, Token, answer_of_call, pass_after};
 use craq_ghost_history::Named;
 use craq_model::{Answer, Ask};
 use craq_names::{Copied, NodeName, Pass, Refusal};
 use craq_node::Core;
-use craq_pending_calls::{answer_of_call, pass_after};
 use craq_running_chain::{Reach, Shared, possible_refusal};
 use craq_running_node::{Asked, CallRefusal, Destination, Gate, Outcome};
 use craq_seat::CallReceipt;

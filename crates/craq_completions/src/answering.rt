@@ -1,7 +1,7 @@
 //! `answer_of_call` and `pass_after`: the reply in a receipt that is the caller's own, and the pass
 //! after it; for clients and request handlers.
 ghost use Rattle.std.specs.Prelude.{◌≡◌, ◌⊎◌, ◌↔◌, max, Err, IfOk, IfErr, IsTrue};
-ghost use Rattle.craq_pending_calls.specs.Calls.{IsCallOf};
+ghost use Rattle.craq_completions.specs.Calls.{IsCallOf};
 
 use craq_model::{Answer, Ask};
 use craq_names::{Copied, NodeName, Pass, Refusal, Same};

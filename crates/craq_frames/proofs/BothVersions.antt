@@ -4,14 +4,14 @@ use Rattle.std.specs.Int.{w8}
 use Rattle.std.specs.List.{flat_map, AllByRecursion, list_all}
 use Rattle.std.proofs.lemmas.Bool.{eqb-true, ltb-false, le-ltb}
 use Rattle.std.proofs.lemmas.List.{append-nil, nil_from_length}
-use Rattle.craq_codec.specs.NumberEncoding.{number}
-use Rattle.craq_codec.specs.PartEncoding.{pair, counted, IsPair}
-use Rattle.craq_codec.specs.NumberReading.{◌>>=◌, number_at}
-use Rattle.craq_codec.specs.PartReading.{pair_at, many_at, mapped}
-use Rattle.craq_codec.proofs.NumberExact.{IsBytes, Takes, Takes-then, IsExact, bind_some, guard_some, some_is, step, chosen, u8_exact}
-use Rattle.craq_codec.proofs.PartExact.{pair_exact, many_takes, many_again}
-use Rattle.craq_codec.proofs.Tagged.{IsTagged, tagged_exact}
-use Rattle.craq_codec.proofs.Tests.{decides_all}
+use Rattle.craq_wire.specs.NumberEncoding.{number}
+use Rattle.craq_wire.specs.PartEncoding.{pair, counted, IsPair}
+use Rattle.craq_wire.specs.NumberReading.{◌>>=◌, number_at}
+use Rattle.craq_wire.specs.PartReading.{pair_at, many_at, mapped}
+use Rattle.craq_wire.proofs.NumberExact.{IsBytes, Takes, Takes-then, IsExact, bind_some, guard_some, some_is, step, chosen, u8_exact}
+use Rattle.craq_wire.proofs.PartExact.{pair_exact, many_takes, many_again}
+use Rattle.craq_wire.proofs.Tagged.{IsTagged, tagged_exact}
+use Rattle.craq_wire.proofs.ReplyTests.{decides_all}
 use Rattle.craq_frames.specs.declared.ask.ClientMessage.{ClientMessage}
 use Rattle.craq_frames.specs.declared.ask.ClientMessage.TheVariants as asks
 use Rattle.craq_frames.specs.declared.answer.ClientReply.{ClientReply}

@@ -15,9 +15,9 @@ use Rattle.tokio_util.specs.Codec.Next.{decoded, partial, Resumes}
 use Rattle.tokio_util.specs.Codec.LengthField.{Layout, field_value, add_adjustment}
 use Rattle.tokio_util.specs.Codec.LengthDelimited.{frame as cut_off, too_big, overflows, codec_layout, Cut, cut_payload, cut_adjusted, cut_frame, cut_in, cut, Answers, IsUnfinished, gives_frames}
 use Rattle.tokio_util.specs.Codec.LengthDelimitedLaws.{cut_payload_whole, cut_payload_short, cut_frame_short, cut_frame_big, cut_frame_head}
-use Rattle.craq_codec.specs.NumberEncoding.{number}
-use Rattle.craq_codec.specs.NumberReading.{number_at}
-use Rattle.craq_codec.proofs.NumberExact.{IsBytes, wide32, u32_exact}
+use Rattle.craq_wire.specs.NumberEncoding.{number}
+use Rattle.craq_wire.specs.NumberReading.{number_at}
+use Rattle.craq_wire.proofs.NumberExact.{IsBytes, wide32, u32_exact}
 use Rattle.craq_frames.specs.Frame.{frame, frame_layout, payload_limit, BeginsTooLong, IsPartial}
 use Rattle.craq_frames.specs.Reading.{is_partial, lacks_bytes}
 use Rattle.craq_frames.proofs.Frames.{digits, each_byte}

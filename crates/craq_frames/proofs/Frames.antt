@@ -7,8 +7,8 @@ use Rattle.std.proofs.lemmas.Bool.{cases_lt}
 use Rattle.std.proofs.lemmas.List.{get_or_past}
 use Rattle.std.proofs.lemmas.Nat.{be_bytes_4}
 use Rattle.tokio_util.specs.Codec.LengthField.{Layout, IsFrameOf, sub_adjustment}
-use Rattle.craq_codec.specs.NumberEncoding.{number}
-use Rattle.craq_codec.proofs.NumberExact.{some_is}
+use Rattle.craq_wire.specs.NumberEncoding.{number}
+use Rattle.craq_wire.proofs.NumberExact.{some_is}
 use Rattle.craq_frames.specs.Frame.{frame, frame_layout}
 
 pub digits : (field : List ℕ) → length field ≡ 4 → number_from_digits 256 field ≡ from_be_bytes w32 field

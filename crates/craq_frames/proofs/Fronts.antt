@@ -4,11 +4,11 @@ use Rattle.std.specs.Int.{w32, from_be_bytes}
 use Rattle.std.specs.Io.{StartsWith}
 use Rattle.std.proofs.lemmas.Bool.{cases_lt}
 use Rattle.std.proofs.lemmas.List.{take_at, drop_at, take-take}
-use Rattle.craq_codec.specs.NumberEncoding.{number}
-use Rattle.craq_codec.specs.NumberReading.{number_at, Fails}
-use Rattle.craq_codec.specs.declared.decode_error.DecodeError.{DecodeError}
-use Rattle.craq_codec.specs.declared.decode_error.DecodeError.TheVariants as unread
-use Rattle.craq_codec.proofs.NumberExact.{IsBytes, wide32, u32_exact}
+use Rattle.craq_wire.specs.NumberEncoding.{number}
+use Rattle.craq_wire.specs.NumberReading.{number_at, Fails}
+use Rattle.craq_wire.specs.declared.decode_error.DecodeError.{DecodeError}
+use Rattle.craq_wire.specs.declared.decode_error.DecodeError.TheVariants as unread
+use Rattle.craq_wire.proofs.NumberExact.{IsBytes, wide32, u32_exact}
 use Rattle.craq_frames.specs.Frame.{frame, payload_limit, BeginsTooLong, IsPartial}
 
 -- ---- reading

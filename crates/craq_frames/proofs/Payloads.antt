@@ -12,17 +12,17 @@ use Rattle.craq_names.specs.declared.refusal.Refusal.TheVariants as refusals
 use Rattle.craq_commands.specs.declared.command.Update.{Update}
 use Rattle.craq_commands.specs.declared.read_mode.ReadMode.{ReadMode}
 use Rattle.craq_commands.specs.declared.read_mode.ReadMode.TheVariants.{Strong, Eventual, Bounded}
-use Rattle.craq_codec.specs.NumberEncoding.{number}
-use Rattle.craq_codec.specs.PartEncoding.{value, object, pair, IsValue, IsObject, IsPair}
-use Rattle.craq_codec.specs.EntryEncoding.{reply, ReplyFits}
-use Rattle.craq_codec.specs.NumberReading.{◌>>=◌, number_at, bytes_at}
-use Rattle.craq_codec.specs.PartReading.{value_at, object_at, pair_at}
-use Rattle.craq_codec.specs.EntryReading.{reply_at}
-use Rattle.craq_codec.proofs.NumberExact.{IsBytes, Takes, Takes-then, IsExact, bind_some, some_is, step, chosen, bytes_takes, bytes_again, u8_exact, u32_exact, u64_exact}
-use Rattle.craq_codec.proofs.PartExact.{object_exact, request_exact, pair_exact, mapped_exact}
-use Rattle.craq_codec.proofs.Tagged.{IsTagged, one_case, bare_case, tagged_exact}
-use Rattle.craq_codec.proofs.EntryExact.{version_value_exact, reply_exact}
-use Rattle.craq_codec.proofs.CommandExact.{command_exact}
+use Rattle.craq_wire.specs.NumberEncoding.{number}
+use Rattle.craq_wire.specs.PartEncoding.{value, object, pair, IsValue, IsObject, IsPair}
+use Rattle.craq_wire.specs.EntryEncoding.{reply, ReplyFits}
+use Rattle.craq_wire.specs.NumberReading.{◌>>=◌, number_at, bytes_at}
+use Rattle.craq_wire.specs.PartReading.{value_at, object_at, pair_at}
+use Rattle.craq_wire.specs.EntryReading.{reply_at}
+use Rattle.craq_wire.proofs.NumberExact.{IsBytes, Takes, Takes-then, IsExact, bind_some, some_is, step, chosen, bytes_takes, bytes_again, u8_exact, u32_exact, u64_exact}
+use Rattle.craq_wire.proofs.PartExact.{object_exact, request_exact, pair_exact, mapped_exact}
+use Rattle.craq_wire.proofs.Tagged.{IsTagged, one_case, bare_case, tagged_exact}
+use Rattle.craq_wire.proofs.EntryExact.{version_value_exact, reply_exact}
+use Rattle.craq_wire.proofs.CommandExact.{command_exact}
 use Rattle.craq_frames.specs.declared.ask.ClientMessage.{ClientMessage}
 use Rattle.craq_frames.specs.declared.ask.ClientMessage.TheVariants as asks
 use Rattle.craq_frames.specs.declared.answer.ClientReply.{ClientReply}

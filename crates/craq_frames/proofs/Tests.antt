@@ -4,7 +4,7 @@ use Rattle.std.specs.Bool.{Decides}
 use Rattle.std.proofs.lemmas.Bool.Decides.{Decides-ltb}
 use Rattle.craq_names.specs.declared.refusal.Refusal.{Refusal}
 use Rattle.craq_names.specs.declared.refusal.Refusal.TheVariants.{NotHead}
-use Rattle.craq_codec.proofs.Tests.{decides_le, decides_sure, decides_object, decides_reply}
+use Rattle.craq_wire.proofs.ReplyTests.{decides_le, decides_sure, decides_object, decides_reply}
 use Rattle.craq_frames.specs.declared.answer.ClientReply.{ClientReply}
 use Rattle.craq_frames.specs.declared.answer.ClientReply.TheVariants as answers
 use Rattle.craq_frames.specs.Payload.{NamesNode, IsAnswer}

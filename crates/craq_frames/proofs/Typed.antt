@@ -1,7 +1,7 @@
 -- Requests and replies that keep their rules and are values of their types have an encoding.
 use Rattle.std.proofs.Common.{ℕ, List, refl}
 use Rattle.std.specs.Prelude.{◌↔◌}
-use Rattle.craq_codec.proofs.Typed.{reply_fits}
+use Rattle.craq_wire.proofs.TypedEntries.{reply_fits}
 use Rattle.craq_frames.specs.declared.ask.ClientMessage.{ClientMessage}
 use Rattle.craq_frames.specs.declared.answer.ClientReply.{ClientReply}
 use Rattle.craq_frames.specs.declared.answer.ClientReply.TheVariants as answers

@@ -2,7 +2,7 @@
 use Rattle.std.specs.Prelude.{◌≡◌, ◌<◌, ◌≤◌, ◌^◌, ◌⊎◌, ℕ, List, ◌++◌, length}
 use Rattle.std.specs.Int.{w32}
 use Rattle.tokio_util.specs.Codec.LengthField.{Layout, default_layout, with_reachable_limit}
-use Rattle.craq_codec.specs.NumberEncoding.{number}
+use Rattle.craq_wire.specs.NumberEncoding.{number}
 
 -- the most bytes of a payload
 abbrev pub payload_limit : ℕ

@@ -9,10 +9,10 @@ use Rattle.craq_commands.specs.declared.command.Update.{Update}
 use Rattle.craq_commands.specs.declared.read_mode.ReadMode.{ReadMode}
 use Rattle.craq_commands.specs.declared.read_mode.ReadMode.TheVariants.{Strong, Eventual, Bounded}
 use Rattle.craq_model.specs.Encodable.{IsReply}
-use Rattle.craq_codec.specs.NumberEncoding.{number}
-use Rattle.craq_codec.specs.PartEncoding.{value, object, IsValue, IsObject}
-use Rattle.craq_codec.specs.EntryEncoding.{reply, ReplyFits}
-use Rattle.craq_codec.specs.CommandEncoding.{command, CommandFits}
+use Rattle.craq_wire.specs.NumberEncoding.{number}
+use Rattle.craq_wire.specs.PartEncoding.{value, object, IsValue, IsObject}
+use Rattle.craq_wire.specs.EntryEncoding.{reply, ReplyFits}
+use Rattle.craq_wire.specs.CommandEncoding.{command, CommandFits}
 use Rattle.craq_frames.specs.declared.ask.ClientMessage.{ClientMessage}
 use Rattle.craq_frames.specs.declared.ask.ClientMessage.TheVariants as asks
 use Rattle.craq_frames.specs.declared.answer.ClientReply.{ClientReply}

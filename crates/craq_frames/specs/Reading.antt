@@ -11,10 +11,10 @@ use Rattle.craq_commands.specs.declared.command.Update.{Update}
 use Rattle.craq_commands.specs.declared.read_mode.ReadMode.{ReadMode}
 use Rattle.craq_commands.specs.declared.read_mode.ReadMode.TheVariants.{Strong, Eventual, Bounded}
 use Rattle.craq_commands.specs.declared.reply.Reply.{Reply}
-use Rattle.craq_codec.specs.NumberReading.{◌>>=◌, number_at, bytes_at}
-use Rattle.craq_codec.specs.PartReading.{value_at, object_at, request_at, pair_at, many_at, mapped}
-use Rattle.craq_codec.specs.EntryReading.{reply_at}
-use Rattle.craq_codec.specs.CommandReading.{command_at}
+use Rattle.craq_wire.specs.NumberReading.{◌>>=◌, number_at, bytes_at}
+use Rattle.craq_wire.specs.PartReading.{value_at, object_at, request_at, pair_at, many_at, mapped}
+use Rattle.craq_wire.specs.EntryReading.{reply_at}
+use Rattle.craq_wire.specs.CommandReading.{command_at}
 use Rattle.craq_frames.specs.Frame.{payload_limit}
 use Rattle.craq_frames.specs.Payload.{payload_version}
 use Rattle.craq_frames.specs.Versions.{many_limit, many_asks, many_answers}

@@ -3,7 +3,7 @@ use Rattle.std.specs.Prelude.{◌^◌, ◌==◌, nat_le, nat_lt, Bool, true, not
 use Rattle.craq_names.specs.declared.refusal.Refusal.{Refusal}
 use Rattle.craq_names.specs.declared.refusal.Refusal.TheVariants.{NotHead}
 use Rattle.std.specs.List.{list_all}
-use Rattle.craq_codec.specs.Tests.{is_reply}
+use Rattle.craq_wire.specs.ReplyTests.{is_reply}
 use Rattle.craq_frames.specs.declared.answer.ClientReply.{ClientReply}
 use Rattle.craq_frames.specs.declared.answer.ClientReply.TheVariants as answers
 use Rattle.craq_frames.specs.declared.versions.Answered.{Answered}

@@ -2,8 +2,8 @@
 -- that its type allows, texts are UTF-8, and lists and texts have any length.
 use Rattle.std.specs.Prelude.{◌<◌, ◌^◌}
 use Rattle.std.specs.Str.{IsUtf8}
-use Rattle.craq_codec.specs.PartEncoding.{IsValue}
-use Rattle.craq_codec.specs.Typed.{IsTypedReply}
+use Rattle.craq_wire.specs.PartEncoding.{IsValue}
+use Rattle.craq_wire.specs.TypedEntries.{IsTypedReply}
 use Rattle.craq_frames.specs.Payload.{RefusalFits}
 use Rattle.craq_frames.specs.declared.answer.ClientReply.{ClientReply}
 use Rattle.craq_frames.specs.declared.answer.ClientReply.TheVariants as answers

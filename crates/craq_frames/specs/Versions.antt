@@ -3,8 +3,8 @@
 use Rattle.std.specs.Prelude.{◌≡◌, ◌≤◌, ⊤, ℕ, List, ◌++◌, length}
 use Rattle.std.specs.List.{AllByRecursion}
 use Rattle.std.specs.Int.{w8}
-use Rattle.craq_codec.specs.NumberEncoding.{number}
-use Rattle.craq_codec.specs.PartEncoding.{counted}
+use Rattle.craq_wire.specs.NumberEncoding.{number}
+use Rattle.craq_wire.specs.PartEncoding.{counted}
 use Rattle.craq_frames.specs.Payload.{ask, AskFits, answer, AnswerFits, IsAnswer}
 use Rattle.craq_frames.specs.declared.versions.PayloadVersion.{PayloadVersion}
 use Rattle.craq_frames.specs.declared.versions.PayloadVersion.TheVariants.{First, Second}

@@ -3,8 +3,8 @@
 ghost use Rattle.std.specs.Prelude.{◌≡◌, ◌<◌, ◌^◌, ◌++◌, length, OnOk, OnErr};
 ghost use Rattle.std.specs.Io.{StartsWith};
 ghost use Rattle.craq_names.specs.Refused.{detail_of};
-ghost use Rattle.craq_codec.specs.NumberReading.{Decodes};
-ghost use Rattle.craq_codec.specs.PartReading.{mapped};
+ghost use Rattle.craq_wire.specs.NumberReading.{Decodes};
+ghost use Rattle.craq_wire.specs.PartReading.{mapped};
 ghost use Rattle.craq_frames.specs.declared.answer.ClientReply.TheVariants as answers;
 ghost use Rattle.craq_frames.specs.Payload.{refusal as encodable_refusal, text as encodable_text, answer as encodable_answer, AnswerFits, RefusalFits, IsAnswer, IsText};
 ghost use Rattle.craq_frames.specs.Reading.{bare_refusal, refusal_named, refusal_at, text_at, answer_at, answer_body_at};
@@ -12,12 +12,12 @@ ghost use Rattle.craq_frames.specs.Tests.{names_node, is_answer};
 
 use crate::Text;
 use bytes::{BufMut, BytesMut};
-use craq_codec::{
+use craq_commands::Reply;
+use craq_names::{NodeId, Pass, Refusal, Stamp, Value, Version};
+use craq_wire::{
     DecodeError, MessagePart, is_encodable_reply, read_u8, read_u32, read_u64, write_u8, write_u32,
     write_u64,
 };
-use craq_commands::Reply;
-use craq_names::{NodeId, Pass, Refusal, Stamp, Value, Version};
 use std::alloc::{AllocError, Global};
 use std::str::from_utf8;
 
@@ -98,7 +98,7 @@ fn named_refusal(number: u8, detail: u64) -> Option<Refusal>
 }
 
 /// Reads the refusal at the front; returns it with the bytes after it.
-#[tactic(auto, unfolding(crate::specs::Reading::refusal_at, craq_codec::specs::PartReading::pair_at))]
+#[tactic(auto, unfolding(crate::specs::Reading::refusal_at, craq_wire::specs::PartReading::pair_at))]
 fn read_refused(bytes: &[u8]) -> Result<(ClientReply, &[u8]), DecodeError>
     ensures { Decodes (λ x. (x.0, x.1.now)) result (mapped answers.Refused (refusal_at bytes.now)) }
 {
@@ -111,7 +111,7 @@ fn read_refused(bytes: &[u8]) -> Result<(ClientReply, &[u8]), DecodeError>
 }
 
 /// Reads the text at the front; returns it with the bytes after it.
-#[tactic(auto, using(crate::proofs::Utf8::test_of_text, crate::proofs::Utf8::test_of_no_text), unfolding(crate::specs::Reading::text_at, craq_codec::specs::NumberReading::bytes_at))]
+#[tactic(auto, using(crate::proofs::Utf8::test_of_text, crate::proofs::Utf8::test_of_no_text), unfolding(crate::specs::Reading::text_at, craq_wire::specs::NumberReading::bytes_at))]
 fn read_text(alloc: Global, bytes: &[u8]) -> Result<(Text, &[u8]), DecodeError>
     ensures { Decodes (λ x. (x.0, x.1.now)) result (text_at bytes.now) }
 {
@@ -128,7 +128,7 @@ fn read_text(alloc: Global, bytes: &[u8]) -> Result<(Text, &[u8]), DecodeError>
 }
 
 /// Reads what follows the kind of a reply to a client; returns the reply with the bytes after it.
-#[tactic(auto, unfolding(crate::specs::Reading::answer_body_at, craq_codec::specs::PartReading::pair_at))]
+#[tactic(auto, unfolding(crate::specs::Reading::answer_body_at, craq_wire::specs::PartReading::pair_at))]
 pub(crate) fn read_answer_body(
     alloc: Global,
     kind: u8,

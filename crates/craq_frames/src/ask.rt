@@ -2,17 +2,17 @@
 //! `versions`.
 ghost use Rattle.std.specs.Prelude.{◌≡◌, ⊤, ◌++◌, OnOk, OnErr};
 ghost use Rattle.std.specs.Io.{StartsWith};
-ghost use Rattle.craq_codec.specs.NumberReading.{Decodes};
+ghost use Rattle.craq_wire.specs.NumberReading.{Decodes};
 ghost use Rattle.craq_frames.specs.Payload.{mode as encodable_mode, update as encodable_update, ask as encodable_ask, AskFits, ModeFits, UpdateFits};
 ghost use Rattle.craq_frames.specs.Reading.{mode_at, mode_body_at, update_at, ask_at, ask_body_at};
 
 use bytes::BytesMut;
-use craq_codec::{
+use craq_commands::{ReadMode, Update};
+use craq_names::{ClientId, NodeId, ObjectId, Pass, RequestNo, Stamp};
+use craq_wire::{
     DecodeError, MessagePart, read_command, read_u8, read_u32, read_u64, write_command, write_u8,
     write_u32, write_u64,
 };
-use craq_commands::{ReadMode, Update};
-use craq_names::{ClientId, NodeId, ObjectId, Pass, RequestNo, Stamp};
 use std::alloc::{AllocError, Global};
 
 /// A request of a client to a store's server.
@@ -62,7 +62,7 @@ fn read_mode(bytes: &[u8]) -> Result<(ReadMode, &[u8]), DecodeError>
 }
 
 /// Reads the update at the front; returns it with the bytes after it.
-#[tactic(auto, unfolding(crate::specs::Reading::update_at, craq_codec::specs::PartReading::pair_at, craq_codec::specs::PartReading::request_at))]
+#[tactic(auto, unfolding(crate::specs::Reading::update_at, craq_wire::specs::PartReading::pair_at, craq_wire::specs::PartReading::request_at))]
 fn read_update(alloc: Global, bytes: &[u8]) -> Result<(Update, &[u8]), DecodeError>
     ensures { Decodes (λ x. (x.0, x.1.now)) result (update_at bytes.now) }
 {
@@ -81,7 +81,7 @@ fn read_update(alloc: Global, bytes: &[u8]) -> Result<(Update, &[u8]), DecodeErr
 }
 
 /// Reads what follows the kind of a request; returns the request with the bytes after it.
-#[tactic(auto, unfolding(crate::specs::Reading::ask_body_at, craq_codec::specs::PartReading::pair_at))]
+#[tactic(auto, unfolding(crate::specs::Reading::ask_body_at, craq_wire::specs::PartReading::pair_at))]
 pub(crate) fn read_ask_body(
     alloc: Global,
     kind: u8,

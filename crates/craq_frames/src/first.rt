@@ -1,7 +1,7 @@
 //! One request or one reply as a payload of version 1: `encode` and `decode` of `ClientMessage` and
 //! `ClientReply`; used by `exchange` in `craq_front`.
 ghost use Rattle.std.specs.Prelude.{◌≡◌, ◌⊎◌, ◌↔◌, ℕ, List, Err, IfOk, IfErr, IsTrue, true};
-ghost use Rattle.craq_codec.specs.NumberReading.{Decodes};
+ghost use Rattle.craq_wire.specs.NumberReading.{Decodes};
 ghost use Rattle.craq_frames.specs.Payload.{IsAnswer, EncodesAsk, EncodesAnswer};
 ghost use Rattle.craq_frames.specs.Reading.{ask_body_at, answer_body_at, payload_at};
 
@@ -9,12 +9,12 @@ use crate::answer::{read_answer_body, test_answer};
 use crate::ask::read_ask_body;
 use crate::{ClientMessage, ClientReply, PAYLOAD_VERSION, USUAL_PAYLOAD_SIZE};
 use bytes::{Bytes, BytesMut};
-use craq_codec::{DecodeError, MessagePart, read_u8, write_u8};
 use craq_names::Refusal;
+use craq_wire::{DecodeError, MessagePart, read_u8, write_u8};
 use std::alloc::{AllocError, Global};
 
 /// Decodes the request that all of the bytes encode.
-#[tactic(auto, unfolding(crate::specs::Reading::payload_at, craq_codec::specs::PartReading::pair_at))]
+#[tactic(auto, unfolding(crate::specs::Reading::payload_at, craq_wire::specs::PartReading::pair_at))]
 fn read_ask(alloc: Global, bytes: &[u8]) -> Result<ClientMessage, DecodeError>
     ensures { Decodes (λ m. m) result (payload_at ask_body_at bytes.now) }
 {
@@ -31,7 +31,7 @@ fn read_ask(alloc: Global, bytes: &[u8]) -> Result<ClientMessage, DecodeError>
 }
 
 /// Decodes the reply that all of the bytes encode, without testing its rules.
-#[tactic(auto, unfolding(crate::specs::Reading::payload_at, craq_codec::specs::PartReading::pair_at))]
+#[tactic(auto, unfolding(crate::specs::Reading::payload_at, craq_wire::specs::PartReading::pair_at))]
 fn read_answer(alloc: Global, bytes: &[u8]) -> Result<ClientReply, DecodeError>
     ensures { Decodes (λ m. m) result (payload_at answer_body_at bytes.now) }
 {

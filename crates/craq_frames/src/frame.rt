@@ -7,11 +7,11 @@ ghost use Rattle.tokio_util.specs.Codec.LengthDelimited.{codec_layout, cut_frame
 ghost use Rattle.craq_frames.specs.Frame.{frame, frame_layout, payload_limit, BeginsTooLong, IsPartial};
 ghost use Rattle.craq_frames.specs.Reading.{is_partial};
 ghost use Rattle.std.specs.Int.{w32};
-ghost use Rattle.craq_codec.specs.NumberEncoding.{number};
+ghost use Rattle.craq_wire.specs.NumberEncoding.{number};
 
 use bytes::{Bytes, BytesMut};
-use craq_codec::read_u32;
 use craq_names::Refusal;
+use craq_wire::read_u32;
 use std::io;
 use tokio_util::codec::{Decoder, Encoder, LengthDelimitedCodec};
 
@@ -95,7 +95,7 @@ pub fn cut_off_frame(buffer: &mut BytesMut) -> Result<Option<BytesMut>, Refusal>
 }
 
 /// Overwrites the 4 bytes from `at` on with a number.
-#[tactic(auto, unfolding(craq_codec::specs::NumberEncoding::number))]
+#[tactic(auto, unfolding(craq_wire::specs::NumberEncoding::number))]
 pub(crate) fn set_u32(bytes: &mut [u8], at: usize, n: u32)
     requires { at + 4 ≤ length bytes.old }
     ensures { bytes.new ≡ take at bytes.old ++ (number w32 n ++ drop (at + 4) bytes.old) }

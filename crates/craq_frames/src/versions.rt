@@ -3,8 +3,8 @@
 ghost use Rattle.std.specs.Prelude.{◌≡◌, ◌≤◌, ◌+◌, ◌⊎◌, ℕ, List, ◌++◌, length, take, drop, Err, IfOk, IfErr, OnOk, OnErr};
 ghost use Rattle.std.specs.Io.{StartsWith};
 ghost use Rattle.std.specs.List.{AllByRecursion, list_all};
-ghost use Rattle.craq_codec.specs.NumberReading.{Decodes};
-ghost use Rattle.craq_codec.specs.PartEncoding.{counted};
+ghost use Rattle.craq_wire.specs.NumberReading.{Decodes};
+ghost use Rattle.craq_wire.specs.PartEncoding.{counted};
 ghost use Rattle.craq_frames.specs.Frame.{frame, payload_limit};
 ghost use Rattle.std.specs.Int.{w8};
 ghost use Rattle.craq_frames.specs.Versions.{version_number, many_limit, AreFew, payload_encoding, PayloadFits, EncodesPayload, IsPayload, answered_encoding, AnsweredFits, IsAnswered, EncodesAnswered};
@@ -16,10 +16,10 @@ use crate::ask::read_ask_body;
 use crate::frame::set_u32;
 use crate::{ClientMessage, ClientReply, USUAL_PAYLOAD_SIZE};
 use bytes::{Bytes, BytesMut};
-use craq_codec::{
+use craq_names::{Items, Refusal};
+use craq_wire::{
     DecodeError, MessagePart, read_parts, read_u8, write_short_list, write_u8, write_u32,
 };
-use craq_names::{Items, Refusal};
 use std::alloc::{AllocError, Global};
 
 /// The most requests in a payload.
@@ -144,7 +144,7 @@ fn read_answered_body(
 }
 
 /// Decodes the client's payload that all of the bytes encode.
-#[tactic(auto, unfolding(crate::specs::Reading::versioned_at, craq_codec::specs::PartReading::pair_at))]
+#[tactic(auto, unfolding(crate::specs::Reading::versioned_at, craq_wire::specs::PartReading::pair_at))]
 fn read_payload(alloc: Global, bytes: &[u8]) -> Result<Payload, DecodeError>
     ensures { Decodes (λ p. p) result (versioned_at payload_body_at bytes.now) }
 {
@@ -158,7 +158,7 @@ fn read_payload(alloc: Global, bytes: &[u8]) -> Result<Payload, DecodeError>
 }
 
 /// Decodes the server's payload that all of the bytes encode, without testing the rules of replies.
-#[tactic(auto, unfolding(crate::specs::Reading::versioned_at, craq_codec::specs::PartReading::pair_at))]
+#[tactic(auto, unfolding(crate::specs::Reading::versioned_at, craq_wire::specs::PartReading::pair_at))]
 fn read_answered(alloc: Global, bytes: &[u8]) -> Result<Answered, DecodeError>
     ensures { Decodes (λ p. p) result (versioned_at answered_body_at bytes.now) }
 {
@@ -172,7 +172,7 @@ fn read_answered(alloc: Global, bytes: &[u8]) -> Result<Answered, DecodeError>
 }
 
 /// Writes a client's payload at the end.
-#[tactic(auto, unfolding(crate::specs::Versions::payload_encoding), using(craq_codec::proofs::Free::all_of_any))]
+#[tactic(auto, unfolding(crate::specs::Versions::payload_encoding), using(craq_wire::proofs::Free::all_of_any))]
 fn write_payload(out: &mut BytesMut, payload: &Payload) -> Result<(), AllocError>
     requires { IsPayload payload.now }
     ensures fits { OnOk result (PayloadFits payload.now) }

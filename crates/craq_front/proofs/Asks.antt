@@ -11,9 +11,9 @@ use Rattle.craq_commands.specs.declared.command.Command.{Command}
 use Rattle.craq_commands.specs.declared.command.Command.TheVariants.{Put, TestAndSet, Append, Prepend, Increment, Decrement, Mini}
 use Rattle.craq_commands.specs.declared.read_mode.ReadMode.{ReadMode}
 use Rattle.craq_commands.specs.declared.read_mode.ReadMode.TheVariants.{Strong, Eventual, Bounded}
-use Rattle.craq_codec.specs.NumberEncoding.{number}
-use Rattle.craq_codec.specs.PartEncoding.{key, value, object, pair, counted, IsObject, IsValue, IsPair}
-use Rattle.craq_codec.specs.CommandEncoding.{command, transaction, CommandFits, TransactionFits}
+use Rattle.craq_wire.specs.NumberEncoding.{number}
+use Rattle.craq_wire.specs.PartEncoding.{key, value, object, pair, counted, IsObject, IsValue, IsPair}
+use Rattle.craq_wire.specs.CommandEncoding.{command, transaction, CommandFits, TransactionFits}
 use Rattle.craq_frames.specs.declared.ask.ClientMessage.{ClientMessage}
 use Rattle.craq_frames.specs.declared.ask.ClientMessage.TheVariants as asks
 use Rattle.craq_frames.specs.Frame.{payload_limit}

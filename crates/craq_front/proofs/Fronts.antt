@@ -1,9 +1,9 @@
 -- No frame stands in front of less than a frame.
 use Rattle.std.proofs.Common.{◌≡◌, ℕ, ◌<◌, ◌≤◌, ◌∙◌, List, ◌++◌, length, Some, sym, ap, arith, inl, inr, length-append, append_assoc}
 use Rattle.std.specs.Int.{w32}
-use Rattle.craq_codec.specs.NumberEncoding.{number}
-use Rattle.craq_codec.specs.NumberReading.{number_at}
-use Rattle.craq_codec.proofs.NumberExact.{some_is, u32_exact}
+use Rattle.craq_wire.specs.NumberEncoding.{number}
+use Rattle.craq_wire.specs.NumberReading.{number_at}
+use Rattle.craq_wire.proofs.NumberExact.{some_is, u32_exact}
 use Rattle.craq_frames.specs.Frame.{frame, payload_limit, IsPartial}
 use Rattle.craq_front.proofs.Lengths.{len32}
 

@@ -9,10 +9,10 @@ use Rattle.craq_names.specs.declared.refusal.Refusal.{Refusal}
 use Rattle.craq_commands.specs.declared.reply.Reply.{Reply}
 use Rattle.craq_commands.specs.declared.reply.Reply.TheVariants.{Written, Mismatch, TooLong, NotANumber, Overflow, Underflow, Done, CompareFailed, Stale}
 use Rattle.craq_model.specs.Encodable.{IsReply}
-use Rattle.craq_codec.specs.NumberEncoding.{number}
-use Rattle.craq_codec.specs.PartEncoding.{value, pair, counted, IsValue, IsPair}
-use Rattle.craq_codec.specs.EntryEncoding.{reply, ReplyFits}
-use Rattle.craq_codec.proofs.NumberExact.{wide8, wide16, wide32, wide64}
+use Rattle.craq_wire.specs.NumberEncoding.{number}
+use Rattle.craq_wire.specs.PartEncoding.{value, pair, counted, IsValue, IsPair}
+use Rattle.craq_wire.specs.EntryEncoding.{reply, ReplyFits}
+use Rattle.craq_wire.proofs.NumberExact.{wide8, wide16, wide32, wide64}
 use Rattle.craq_frames.specs.declared.answer.ClientReply.{ClientReply}
 use Rattle.craq_frames.specs.declared.answer.ClientReply.TheVariants as answers
 use Rattle.craq_frames.specs.declared.versions.PayloadVersion.{PayloadVersion}

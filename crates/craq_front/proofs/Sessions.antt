@@ -8,7 +8,7 @@ use Rattle.craq_names.specs.declared.refusal.Refusal.{Refusal}
 use Rattle.craq_names.specs.declared.refusal.Refusal.TheVariants as refusals
 use Rattle.craq_names.proofs.Lists.{all_append}
 use Rattle.craq_frames.specs.Frame.{frame, payload_limit}
-use Rattle.craq_codec.specs.NumberEncoding.{number}
+use Rattle.craq_wire.specs.NumberEncoding.{number}
 use Rattle.std.specs.Int.{w32}
 use Rattle.craq_front.proofs.Lengths.{len32}
 use Rattle.craq_front.specs.Serving.{Turn, Replies, RepliesEach, Served, idle, neither, reader, writer, IsUsedUp, Session, Next, Batch}

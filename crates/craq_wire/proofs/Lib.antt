@@ -1,3 +1,12 @@
+pub mod NumberExact
+pub mod PartExact
+pub mod EntryExact
+pub mod CommandExact
+pub mod Free
+pub mod Loop
+pub mod Tagged
+pub mod ReplyTests
+pub mod TypedEntries
 pub mod Messages
 pub mod Tests
 pub mod Typed

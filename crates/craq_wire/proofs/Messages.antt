@@ -9,16 +9,16 @@ use Rattle.craq_model.specs.declared.message.LinkMessage.{LinkMessage}
 use Rattle.craq_model.specs.declared.message.StatePart.{StatePart}
 use Rattle.craq_commands.specs.declared.state.State.{State}
 use Rattle.craq_model.specs.Encodable.{IsEncodable}
-use Rattle.craq_codec.specs.NumberEncoding.{number}
-use Rattle.craq_codec.specs.PartEncoding.{key, pair, counted, IsKey, IsPair, AreCounted}
-use Rattle.craq_codec.specs.NumberReading.{number_at}
-use Rattle.craq_codec.specs.PartReading.{key_at, value_at, pair_at, counted_at, mapped}
-use Rattle.craq_codec.specs.EntryReading.{window_at, entry_at}
-use Rattle.craq_codec.specs.EntryEncoding.{entry, EntryFits}
-use Rattle.craq_codec.proofs.NumberExact.{IsBytes, Takes, Takes-then, IsExact, bind_some, some_is, step, chosen, u8_exact, u16_exact, u32_exact, u64_exact, wide8, wide32}
-use Rattle.craq_codec.proofs.PartExact.{key_exact, pair_exact, counted_exact, mapped_exact}
-use Rattle.craq_codec.proofs.Tagged.{one_case}
-use Rattle.craq_codec.proofs.EntryExact.{version_value_exact, window_exact, entry_exact}
+use Rattle.craq_wire.specs.NumberEncoding.{number}
+use Rattle.craq_wire.specs.PartEncoding.{key, pair, counted, IsKey, IsPair, AreCounted}
+use Rattle.craq_wire.specs.NumberReading.{number_at}
+use Rattle.craq_wire.specs.PartReading.{key_at, value_at, pair_at, counted_at, mapped}
+use Rattle.craq_wire.specs.EntryReading.{window_at, entry_at}
+use Rattle.craq_wire.specs.EntryEncoding.{entry, EntryFits}
+use Rattle.craq_wire.proofs.NumberExact.{IsBytes, Takes, Takes-then, IsExact, bind_some, some_is, step, chosen, u8_exact, u16_exact, u32_exact, u64_exact, wide8, wide32}
+use Rattle.craq_wire.proofs.PartExact.{key_exact, pair_exact, counted_exact, mapped_exact}
+use Rattle.craq_wire.proofs.Tagged.{one_case}
+use Rattle.craq_wire.proofs.EntryExact.{version_value_exact, window_exact, entry_exact}
 use Rattle.craq_wire.specs.Reading.{state_of, state_at, part_of, part_at, body_at, Header, header_of, header_at, message_of, message_at, all_of}
 use Rattle.craq_wire.specs.Encoding.{wire_version, message_kind, stored, kept_window, state, state_part, body_bytes, header, encoding_of, StoredFits, KeptFits, StateFits, PartFits, BodyFits, MessageFits, Encodes}
 use Rattle.craq_wire.specs.Tests.{is_encodable}

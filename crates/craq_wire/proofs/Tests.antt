@@ -24,7 +24,7 @@ use Rattle.craq_model.specs.declared.message.Body.{Body}
 use Rattle.craq_model.specs.declared.message.Body.TheVariants as bodies
 use Rattle.craq_model.specs.declared.message.LinkMessage.{LinkMessage}
 use Rattle.craq_model.specs.Encodable.{IsReply, IsNotStale, IsEncodableEntry, IsEncodableWindow, IsEncodableState, IsEncodablePart, IsConsecutive, IsEncodableBatch, IsEncodableBody, IsFromItsSender, IsEncodable}
-use Rattle.craq_codec.proofs.Tests.{decides_le, decides_sure, decides_all, decides_reply, decides_not_stale}
+use Rattle.craq_wire.proofs.ReplyTests.{decides_le, decides_sure, decides_all, decides_reply, decides_not_stale}
 use Rattle.craq_wire.specs.Tests.{stands_twice, is_below_first, is_rising, same_key, has_version, is_entry, is_stored, is_kept, is_window, is_client, is_state, is_part, are_consecutive, is_batch, is_node, is_membership, is_body, is_from_its_sender, is_encodable}
 
 -- ---- no two equal items

@@ -9,9 +9,9 @@ use Rattle.craq_model.specs.declared.message.Body.{Body}
 use Rattle.craq_model.specs.declared.message.Body.TheVariants as bodies
 use Rattle.craq_model.specs.declared.message.LinkMessage.{LinkMessage}
 use Rattle.craq_model.specs.Encodable.{IsEncodableEntry, IsEncodableWindow, IsEncodableState, IsEncodableBody, IsEncodable}
-use Rattle.craq_codec.specs.Typed.{IsTypedEntry}
-use Rattle.craq_codec.specs.EntryEncoding.{EntryFits}
-use Rattle.craq_codec.proofs.Typed.{within_byte, entry_fits, window_fits}
+use Rattle.craq_wire.specs.TypedEntries.{IsTypedEntry}
+use Rattle.craq_wire.specs.EntryEncoding.{EntryFits}
+use Rattle.craq_wire.proofs.TypedEntries.{within_byte, entry_fits, window_fits}
 use Rattle.craq_wire.specs.Encoding.{KeptFits, StateFits, BodyFits, Encodes, encoding_of}
 use Rattle.craq_wire.specs.Typed.{IsTypedKept, IsTypedState, IsTypedBody, IsTypedMessage}
 

@@ -8,9 +8,9 @@ use Rattle.craq_model.specs.declared.message.Body.TheVariants as bodies
 use Rattle.craq_model.specs.declared.message.LinkMessage.{LinkMessage}
 use Rattle.craq_model.specs.declared.message.StatePart.{StatePart}
 use Rattle.craq_model.specs.Encodable.{IsEncodable}
-use Rattle.craq_codec.specs.NumberEncoding.{number}
-use Rattle.craq_codec.specs.PartEncoding.{key, value, pair, counted, IsKey, IsValue, IsPair, AreCounted}
-use Rattle.craq_codec.specs.EntryEncoding.{entry, window, EntryFits, WindowFits}
+use Rattle.craq_wire.specs.NumberEncoding.{number}
+use Rattle.craq_wire.specs.PartEncoding.{key, value, pair, counted, IsKey, IsValue, IsPair, AreCounted}
+use Rattle.craq_wire.specs.EntryEncoding.{entry, window, EntryFits, WindowFits}
 
 -- a message: the version of the wire format, the kind of the body, the rest of the header, and the
 -- body

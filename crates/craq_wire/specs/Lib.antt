@@ -1,3 +1,13 @@
+pub mod NumberReading
+pub mod NumberEncoding
+pub mod PartReading
+pub mod PartEncoding
+pub mod EntryReading
+pub mod EntryEncoding
+pub mod CommandReading
+pub mod CommandEncoding
+pub mod ReplyTests
+pub mod TypedEntries
 pub mod Reading
 pub mod Encoding
 pub mod Tests

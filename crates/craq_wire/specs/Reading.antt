@@ -7,9 +7,9 @@ use Rattle.craq_model.specs.declared.message.Body.{Body}
 use Rattle.craq_model.specs.declared.message.Body.TheVariants as bodies
 use Rattle.craq_model.specs.declared.message.LinkMessage.{LinkMessage}
 use Rattle.craq_model.specs.declared.message.StatePart.{StatePart}
-use Rattle.craq_codec.specs.NumberReading.{◌>>=◌, number_at}
-use Rattle.craq_codec.specs.PartReading.{key_at, value_at, pair_at, counted_at, mapped}
-use Rattle.craq_codec.specs.EntryReading.{entry_at, window_at}
+use Rattle.craq_wire.specs.NumberReading.{◌>>=◌, number_at}
+use Rattle.craq_wire.specs.PartReading.{key_at, value_at, pair_at, counted_at, mapped}
+use Rattle.craq_wire.specs.EntryReading.{entry_at, window_at}
 use Rattle.craq_wire.specs.Encoding.{wire_version}
 
 -- the state with these lists

@@ -14,7 +14,7 @@ use Rattle.craq_model.specs.declared.message.Body.TheVariants as bodies
 use Rattle.craq_model.specs.declared.message.LinkMessage.{LinkMessage}
 use Rattle.craq_model.specs.declared.message.StatePart.{StatePart}
 use Rattle.craq_model.specs.Parts.{item_count}
-use Rattle.craq_codec.specs.Tests.{is_reply, is_not_stale}
+use Rattle.craq_wire.specs.ReplyTests.{is_reply, is_not_stale}
 
 -- one item equals a later one
 abbrev pub stands_twice : {A : Type 0} → (A → A → Bool) → List A → Bool

@@ -8,8 +8,8 @@ use Rattle.craq_model.specs.declared.message.Body.{Body}
 use Rattle.craq_model.specs.declared.message.Body.TheVariants as bodies
 use Rattle.craq_model.specs.declared.message.LinkMessage.{LinkMessage}
 use Rattle.craq_model.specs.declared.message.StatePart.{StatePart}
-use Rattle.craq_codec.specs.PartEncoding.{IsKey, IsPair}
-use Rattle.craq_codec.specs.Typed.{IsTypedEntry, IsTypedWindow}
+use Rattle.craq_wire.specs.PartEncoding.{IsKey, IsPair}
+use Rattle.craq_wire.specs.TypedEntries.{IsTypedEntry, IsTypedWindow}
 use Rattle.craq_wire.specs.Encoding.{StoredFits, HeaderFits}
 
 -- a client of a state, and its kept replies

@@ -1,16 +1,16 @@
 //! Reads a message between nodes from the front of bytes and writes one at the end, kind by kind;
 //! used by `wire`.
 ghost use Rattle.std.specs.Prelude.{◌≡◌, ◌++◌, OnOk};
-ghost use Rattle.craq_codec.specs.NumberReading.{Decodes};
+ghost use Rattle.craq_wire.specs.NumberReading.{Decodes};
 ghost use Rattle.craq_model.specs.Encodable.{IsEncodableBody, IsEncodablePart, IsEncodableState, IsEncodable};
 ghost use Rattle.craq_wire.specs.Reading.{body_at, message_at, part_at, state_at};
 ghost use Rattle.craq_wire.specs.Encoding.{header, renamed, body_bytes, state, state_part, message_kind, encoding_of, HeaderFits, StateFits, PartFits, BodyFits, MessageFits};
 
-use bytes::BytesMut;
-use craq_codec::{
+use crate::{
     DecodeError, MessagePart, read_long_list, read_short_list, read_u8, read_u16, read_u32,
     read_u64, write_long_list, write_short_list, write_u8, write_u16, write_u32, write_u64,
 };
+use bytes::BytesMut;
 use craq_commands::{Entry, State};
 use craq_model::{Body, LinkMessage, StatePart};
 use craq_names::{ChainId, Epoch, Key, NodeId, Seq, Stamp, Ticket, Version};
@@ -23,7 +23,7 @@ const WIRE_VERSION: u8 = 2;
 const HEADER_SIZE: usize = 32;
 
 /// Reads the state at the front; returns it with the bytes after it.
-#[tactic(auto, unfolding(crate::specs::Reading::state_at, craq_codec::specs::PartReading::pair_at))]
+#[tactic(auto, unfolding(crate::specs::Reading::state_at, crate::specs::PartReading::pair_at))]
 fn read_state(alloc: Global, bytes: &[u8]) -> Result<(State, &[u8]), DecodeError>
     ensures { Decodes (λ x. (x.0, x.1.now)) result (state_at bytes.now) }
 {
@@ -33,7 +33,7 @@ fn read_state(alloc: Global, bytes: &[u8]) -> Result<(State, &[u8]), DecodeError
 }
 
 /// Reads the part of a state at the front; returns it with the bytes after it.
-#[tactic(auto, unfolding(crate::specs::Reading::part_at, craq_codec::specs::PartReading::pair_at))]
+#[tactic(auto, unfolding(crate::specs::Reading::part_at, crate::specs::PartReading::pair_at))]
 fn read_part(alloc: Global, bytes: &[u8]) -> Result<(StatePart, &[u8]), DecodeError>
     ensures { Decodes (λ x. (x.0, x.1.now)) result (part_at bytes.now) }
 {
@@ -51,7 +51,7 @@ fn read_part(alloc: Global, bytes: &[u8]) -> Result<(StatePart, &[u8]), DecodeEr
 }
 
 /// Reads a body of this kind; returns it with the bytes after it.
-#[tactic(auto, unfolding(crate::specs::Reading::body_at, craq_codec::specs::PartReading::pair_at))]
+#[tactic(auto, unfolding(crate::specs::Reading::body_at, crate::specs::PartReading::pair_at))]
 fn read_body(alloc: Global, kind: u8, bytes: &[u8]) -> Result<(Body, &[u8]), DecodeError>
     ensures { Decodes (λ x. (x.0, x.1.now)) result (body_at kind bytes.now) }
 {
@@ -108,7 +108,7 @@ fn read_body(alloc: Global, kind: u8, bytes: &[u8]) -> Result<(Body, &[u8]), Dec
 }
 
 /// Reads the message at the front; returns it with the bytes after it.
-#[tactic(auto, unfolding(crate::specs::Reading::message_at, crate::specs::Reading::header_at, craq_codec::specs::PartReading::pair_at))]
+#[tactic(auto, unfolding(crate::specs::Reading::message_at, crate::specs::Reading::header_at, crate::specs::PartReading::pair_at))]
 pub(crate) fn read_message(alloc: Global, bytes: &[u8]) -> Result<(LinkMessage, &[u8]), DecodeError>
     ensures { Decodes (λ x. (x.0, x.1.now)) result (message_at bytes.now) }
 {
@@ -155,7 +155,7 @@ fn kind(body: &Body) -> u8
 }
 
 /// Writes the objects and the kept replies of a state at the end.
-#[tactic(auto, using(craq_codec::proofs::Free::all_of_any))]
+#[tactic(auto, using(crate::proofs::Free::all_of_any))]
 fn write_state(out: &mut BytesMut, s: &State) -> Result<(), AllocError>
     requires { IsEncodableState s.now }
     ensures fits { OnOk result (StateFits s.now) }
@@ -178,7 +178,7 @@ fn write_part(out: &mut BytesMut, part: &StatePart) -> Result<(), AllocError>
 }
 
 /// Writes a body at the end.
-#[tactic(auto, using(craq_codec::proofs::Free::all_of_any))]
+#[tactic(auto, using(crate::proofs::Free::all_of_any))]
 fn write_body(out: &mut BytesMut, body: &Body) -> Result<(), AllocError>
     requires { IsEncodableBody body.now }
     ensures fits { OnOk result (BodyFits body.now) }
@@ -208,7 +208,7 @@ fn write_body(out: &mut BytesMut, body: &Body) -> Result<(), AllocError>
 }
 
 /// Writes a message's header at the end, with this sender, stamp and index.
-#[tactic(auto, unfolding(craq_codec::specs::NumberEncoding::number))]
+#[tactic(auto, unfolding(crate::specs::NumberEncoding::number))]
 fn write_header(
     out: &mut BytesMut,
     m: &LinkMessage,

@@ -6,7 +6,7 @@ ghost use Rattle.std.specs.List.{list_all};
 ghost use Rattle.craq_wire.specs.Tests.{are_consecutive, has_version, is_batch, is_body, is_client, is_entry, is_filled, is_from_its_sender, is_kept, is_membership, is_node, is_part, is_encodable, is_state, is_stored, is_window};
 
 use crate::alike::{has_twice, rises};
-use craq_codec::{is_encodable_reply, is_fresh_reply};
+use crate::{is_encodable_reply, is_fresh_reply};
 use craq_commands::{Entry, Kept, Mini, State, WINDOW_LIMIT, Window, Write};
 use craq_epochs::MEMBER_LIMIT;
 use craq_model::{BATCH_LIMIT, Body, GREATEST_COUNT, LinkMessage, PART_LIMIT, StatePart};

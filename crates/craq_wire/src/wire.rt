@@ -1,16 +1,15 @@
 //! `encode`, `decode` and `spelled`: the functions of the crate, for links between nodes.
 ghost use Rattle.std.specs.Prelude.{◌≡◌, ◌⊎◌, ◌↔◌, ℕ, List, Err, IfOk, IfErr, IsTrue};
 ghost use Rattle.craq_model.specs.Encodable.{IsEncodable};
-ghost use Rattle.craq_codec.specs.NumberReading.{Decodes};
+ghost use Rattle.craq_wire.specs.NumberReading.{Decodes};
 ghost use Rattle.craq_wire.specs.Reading.{all_of};
 ghost use Rattle.craq_wire.specs.Encoding.{Encodes, renamed};
 
-use crate::LinkMessage;
 use crate::message::{read_message, write_message};
 use crate::room::room_of;
 use crate::rules::test_message;
+use crate::{DecodeError, LinkMessage};
 use bytes::{Bytes, BytesMut};
-use craq_codec::DecodeError;
 use craq_names::{NodeId, Refusal, Stamp};
 use std::alloc::{AllocError, Global};
 

@@ -2,7 +2,7 @@ use Rattle.std.proofs.Common.{◌≡◌, ◌∙◌, List, ℕ, ◌++◌, ◌-◌
 use Rattle.std.specs.Io.{StartsWith}
 use Rattle.std.proofs.lemmas.Result.{err_from_is_err_and}
 use Rattle.std.specs.Int.{w32}
-use Rattle.craq_codec.specs.NumberEncoding.{number}
+use Rattle.craq_wire.specs.NumberEncoding.{number}
 use Rattle.craq_frames.specs.Versions.{answered_encoding}
 use Rattle.craq_frames.proofs.Fronts.{starts_before, room_for_length, framed}
 use Rattle.craq_frames.proofs.versions.append_answered.Goals as goal

@@ -4,8 +4,8 @@ use Rattle.craq_commands.specs.declared.entry.Entry.{Entry}
 use Rattle.craq_commands.specs.declared.state.State.{State}
 use Rattle.craq_commands.specs.SingleCopy.{after_entries}
 use Rattle.craq_model.specs.Past.{Past, length_in, acknowledged_in, installed_in}
-use Rattle.craq_compaction.specs.Compacted.{compacted_in, HoldsCommitted}
-use Rattle.craq_compaction.proofs.Pasts.{compacted_acknowledge, compacted_length}
+use Rattle.craq_node_invariant.specs.Compacted.{compacted_in, HoldsCommitted}
+use Rattle.craq_node_invariant.proofs.CompactedPasts.{compacted_acknowledge, compacted_length}
 use Rattle.craq_compact_history.specs.Stored.{stored}
 
 -- a past whose base is its commit index

@@ -5,7 +5,7 @@ use Rattle.craq_commands.specs.declared.state.State.{State}
 use Rattle.craq_model.specs.Past.{Past, clean_in, entries_in}
 use Rattle.craq_model.specs.Plain.{Plain}
 use Rattle.craq_node_invariant.specs.Sound.{IsSound}
-use Rattle.craq_compaction.specs.Compacted.{compacted_in, remembered}
+use Rattle.craq_node_invariant.specs.Compacted.{compacted_in, remembered}
 use Rattle.craq_node.specs.Represented.{IsRemembered}
 use Rattle.craq_compact_history.specs.Forgotten.{DiffersInSettled}
 

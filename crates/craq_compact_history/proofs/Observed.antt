@@ -7,8 +7,8 @@ use Rattle.craq_commands.specs.Kept.{Window}
 use Rattle.craq_commands.specs.Objects.{object_of, version_of}
 use Rattle.craq_commands.specs.SingleCopy.{after_entries, is_new_to, said, window_of}
 use Rattle.craq_model.specs.Past.{Past, entries_in, newest_in, clean_in, newest_within, values_after, object_within_in}
-use Rattle.craq_compaction.specs.Compacted.{compacted_in}
-use Rattle.craq_compaction.proofs.Pasts.{compacted_newest, compacted_clean}
+use Rattle.craq_node_invariant.specs.Compacted.{compacted_in}
+use Rattle.craq_node_invariant.proofs.CompactedPasts.{compacted_newest, compacted_clean}
 use Rattle.craq_full_history.specs.Scans.{last_value}
 use Rattle.craq_full_history.specs.Slots.{Slots, is_new_in, reply_at, said_in, slots_after, slots_from}
 use Rattle.craq_full_history.proofs.Scans.{last_of_values}

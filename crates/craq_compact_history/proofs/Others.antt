@@ -15,8 +15,8 @@ use Rattle.craq_commands.specs.Known.{Known, kept_or_new, known_of}
 use Rattle.craq_commands.specs.Known.Known.{New, Kept, Stale}
 use Rattle.craq_commands.specs.SingleCopy.{after_entries, after_entry, is_new_to, kept_with, said, window_of}
 use Rattle.craq_model.specs.Past.{Past, newest_in}
-use Rattle.craq_compaction.specs.Compacted.{compacted_in}
-use Rattle.craq_compaction.proofs.Pasts.{compacted_newest}
+use Rattle.craq_node_invariant.specs.Compacted.{compacted_in}
+use Rattle.craq_node_invariant.proofs.CompactedPasts.{compacted_newest}
 use Rattle.craq_compact_history.specs.Others.{is_of}
 
 -- an entry of another client

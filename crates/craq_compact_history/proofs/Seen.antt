@@ -4,8 +4,8 @@ use Rattle.craq_commands.specs.declared.state.State.{State}
 use Rattle.craq_model.specs.Past.{Past, length_in, newest_in}
 use Rattle.craq_model.specs.Plain.{Plain, length_of}
 use Rattle.craq_node_invariant.specs.Sound.{IsSound}
-use Rattle.craq_compaction.specs.Compacted.{compacted_in, remembered}
-use Rattle.craq_compaction.proofs.Pasts.{compacted_length, compacted_newest}
+use Rattle.craq_node_invariant.specs.Compacted.{compacted_in, remembered}
+use Rattle.craq_node_invariant.proofs.CompactedPasts.{compacted_length, compacted_newest}
 use Rattle.craq_compact_history.specs.declared.figures.NodeFigures.{NodeFigures}
 use Rattle.craq_compact_history.specs.Counted.{bytes_in, CountsHeld}
 use Rattle.craq_compact_history.specs.Figures.{figures_of}

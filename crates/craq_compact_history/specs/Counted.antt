@@ -5,7 +5,7 @@ use Rattle.craq_commands.specs.declared.entry.Entry.{Entry}
 use Rattle.craq_commands.specs.declared.entry.Write.{Write}
 use Rattle.craq_commands.specs.Objects.{Objects}
 use Rattle.craq_model.specs.Past.{Past}
-use Rattle.craq_compaction.specs.Compacted.{compacted_in}
+use Rattle.craq_node_invariant.specs.Compacted.{compacted_in}
 use Rattle.craq_compact_state.specs.Bytes.{bytes_of_entries, bytes_of_objects}
 
 -- the number of writes of version 1: each makes an object

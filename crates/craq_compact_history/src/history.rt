@@ -12,8 +12,8 @@ ghost use Rattle.craq_commands.specs.SingleCopy.{after_entries, is_new_to, windo
 ghost use Rattle.craq_model.specs.Deliveries.{is_applicable};
 ghost use Rattle.craq_model.specs.Past.{clean_in, newest_in};
 ghost use Rattle.craq_node_invariant.specs.Sound.{AreInRow};
-ghost use Rattle.craq_compaction.specs.Compacted.{compacted_in};
-ghost use Rattle.craq_compaction.proofs.Pasts.{compacted_twice};
+ghost use Rattle.craq_node_invariant.specs.Compacted.{compacted_in};
+ghost use Rattle.craq_node_invariant.proofs.CompactedPasts.{compacted_twice};
 ghost use Rattle.craq_full_history.specs.Slots.{slots_after, slots_from};
 ghost use Rattle.craq_compact_state.specs.Held.{length_of};
 ghost use Rattle.craq_client_index.specs.Indexed.{Tells};

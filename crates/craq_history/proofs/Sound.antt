@@ -13,7 +13,7 @@ use Rattle.craq_node_invariant.specs.Sound.{AreInRow, IsSound, IsSoundState}
 use Rattle.craq_node_invariant.proofs.Applicable.{applicable_rest}
 use Rattle.craq_node_invariant.proofs.Rows.{row_drop}
 use Rattle.craq_node_invariant.proofs.Sorted.{all_split}
-use Rattle.craq_compaction.specs.Compacted.{HoldsCommitted}
+use Rattle.craq_node_invariant.specs.Compacted.{HoldsCommitted}
 use Rattle.craq_history.specs.declared.change.Change.{Change}
 use Rattle.craq_history.specs.declared.change.HistoryChange.{HistoryChange}
 use Rattle.craq_history.specs.declared.change.HistoryChange.TheVariants as histories

@@ -7,7 +7,7 @@ ghost use Rattle.craq_commands.specs.Reported.{given_reply};
 ghost use Rattle.craq_model.specs.Deliveries.{are_applicable};
 ghost use Rattle.craq_model.specs.Encodable.{IsEncodableEntry};
 ghost use Rattle.craq_node_invariant.specs.Sound.{AreInRow, IsSoundState};
-ghost use Rattle.craq_compaction.specs.Compacted.{HoldsCommitted, remembered_in};
+ghost use Rattle.craq_node_invariant.specs.Compacted.{HoldsCommitted, remembered_in};
 ghost use Rattle.craq_history.specs.InMemory.{ArePartlyApplied};
 ghost use Rattle.craq_model.specs.Past.{Past, no_past, length_in, newest_in, clean_in, entries_in, object_within_in, last_position, with_entries_in, acknowledged_in, installed_in};
 

@@ -5,7 +5,7 @@ ghost use Rattle.craq_model.specs.Deliveries.{reads_without};
 ghost use Rattle.craq_history.specs.Change.{changed, no_change, past_by, gathering_by, IsGain, commits_by, updates_by, reads_by, epoch_by, members_by, floor_by, ticket_by};
 ghost use Rattle.craq_history.specs.Nodes.{plain_of};
 ghost use Rattle.craq_node_invariant.specs.Sound.{IsSound};
-ghost use Rattle.craq_compaction.specs.Compacted.{HoldsCommitted, remembered, remembered_in};
+ghost use Rattle.craq_node_invariant.specs.Compacted.{HoldsCommitted, remembered, remembered_in};
 ghost use Rattle.craq_model.specs.Past.{length_in, newest_in};
 ghost use Rattle.craq_model.specs.Parts.{gathering_for, with_part};
 ghost use Rattle.craq_history.specs.Effects.{CanGrow, CanMake, FollowsInRow, IsApart, IsApplicable, IsSoundCopy, IsEncodableGrowth};

@@ -17,8 +17,8 @@ use Rattle.craq_model.specs.Settle.{Transition}
 use Rattle.craq_model.specs.Encodable.{IsEncodable}
 use Rattle.craq_history.specs.declared.change.Change.{Change}
 use Rattle.craq_history.specs.Change.{changed, no_change}
-use Rattle.craq_compaction.specs.Compacted.{remembered, remembered_transition}
-use Rattle.craq_compaction.proofs.Soundness.{remembered_is}
+use Rattle.craq_node_invariant.specs.Compacted.{remembered, remembered_transition}
+use Rattle.craq_node_invariant.proofs.CompactedSoundness.{remembered_is}
 use Rattle.craq_node.specs.Admitted.{is_heeded, tells_membership}
 use Rattle.craq_node.proofs.Transitions.{transition_in}
 use Rattle.craq_model.specs.Plain.{Plain, opening_member}

@@ -15,9 +15,9 @@ use Rattle.craq_model.specs.Plain.{Plain}
 use Rattle.craq_model.specs.Settle.{Transition, transition_ignoring}
 use Rattle.craq_node_invariant.specs.Sound.{IsSound, IsEncodableEvent}
 use Rattle.craq_node_invariant.proofs.Steps.{step_is_sound}
-use Rattle.craq_compaction.specs.Compacted.{remembered_in, remembered, remembered_transition}
-use Rattle.craq_compaction.proofs.Pasts.{compacted_twice}
-use Rattle.craq_compaction.proofs.Steps.{transition_remembered, step_remembered, delivery_remembered}
+use Rattle.craq_node_invariant.specs.Compacted.{remembered_in, remembered, remembered_transition}
+use Rattle.craq_node_invariant.proofs.CompactedPasts.{compacted_twice}
+use Rattle.craq_node_invariant.proofs.CompactedSteps.{transition_remembered, step_remembered, delivery_remembered}
 use Rattle.craq_history.specs.declared.change.Change.{Change}
 use Rattle.craq_history.specs.Change.{changed}
 use Rattle.craq_node.specs.Represented.{StepAnswers, StepGives, IsFree, IsRemembered, uncounted_step}

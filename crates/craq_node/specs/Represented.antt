@@ -18,7 +18,7 @@ use Rattle.craq_model.specs.Past.{Past}
 use Rattle.craq_history.specs.Nodes.{plain_of}
 use Rattle.craq_node_invariant.specs.Sound.{IsSound}
 pub use Rattle.craq_node.specs.Admitted.{uncounted_step}
-use Rattle.craq_compaction.specs.Compacted.{remembered, remembered_transition}
+use Rattle.craq_node_invariant.specs.Compacted.{remembered, remembered_transition}
 
 -- the plain node of a node that runs or is stopped
 abbrev pub plain_at : {H : Type 0} → (H → Past) → Node H → Bool → Plain

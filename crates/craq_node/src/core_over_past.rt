@@ -8,7 +8,7 @@ ghost use Rattle.craq_model.specs.Node.{event_transition, is_for};
 ghost use Rattle.craq_model.specs.Encodable.{IsEncodable};
 ghost use Rattle.craq_node_invariant.specs.Sound.{AreEncodable, IsSound, IsEncodableAsk, IsEncodableEvent};
 ghost use Rattle.craq_node_invariant.proofs.Props.{IsSound-prop};
-ghost use Rattle.craq_compaction.specs.Compacted.{remembered};
+ghost use Rattle.craq_node_invariant.specs.Compacted.{remembered};
 ghost use Rattle.craq_history.specs.Nodes.{plain_of};
 ghost use Rattle.craq_node.specs.Admitted.{IsAdmitted};
 ghost use Rattle.craq_node.specs.Represented.{StepAnswers, CanArrive, StepGives, IsFree, IsRemembered, plain_at};

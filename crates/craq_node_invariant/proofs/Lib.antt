@@ -21,3 +21,11 @@ pub mod States
 pub mod Steps
 pub mod Updates
 pub mod Props
+pub mod CompactedPasts
+pub mod CompactedTransitions
+pub mod CompactedMessages
+pub mod CompactedCopies
+pub mod CompactedPositions
+pub mod CompactedAsks
+pub mod CompactedSteps
+pub mod CompactedSoundness

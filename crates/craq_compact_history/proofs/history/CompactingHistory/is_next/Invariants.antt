@@ -5,7 +5,7 @@ use Rattle.craq_commands.specs.declared.entry.Write.{Write}
 use Rattle.craq_commands.specs.Objects.{version_of}
 use Rattle.craq_commands.specs.SingleCopy.{after_entries}
 use Rattle.craq_model.specs.Past.{newest_in}
-use Rattle.craq_compaction.specs.Compacted.{compacted_in}
+use Rattle.craq_node_invariant.specs.Compacted.{compacted_in}
 use Rattle.craq_compact_history.specs.Stored.{stored}
 use Rattle.craq_compact_history.proofs.history.CompactingHistory.is_next.Given as goal
 

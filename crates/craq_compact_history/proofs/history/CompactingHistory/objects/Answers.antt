@@ -1,6 +1,6 @@
 use Rattle.std.proofs.Common.{◌-◌, ◌^◌, length, min, sym, ap, ◌∙◌}
 use Rattle.craq_commands.specs.declared.state.State.{State}
-use Rattle.craq_compaction.proofs.Pasts.{compacted_newest}
+use Rattle.craq_node_invariant.proofs.CompactedPasts.{compacted_newest}
 use Rattle.craq_compact_history.specs.Stored.{stored}
 use Rattle.craq_compact_history.proofs.history.CompactingHistory.objects.Goals as goal
 

@@ -1,7 +1,7 @@
 use Rattle.std.proofs.Common.{◌≡◌, ℕ, ◌+◌, ◌-◌, ◌<◌, ◌≤◌, ◌^◌, true, List, length, drop, min, ap, subst, ◌∙◌, arith, length-append, length-drop}
 use Rattle.craq_commands.specs.declared.entry.Entry.{Entry}
 use Rattle.craq_commands.specs.declared.state.State.{State}
-use Rattle.craq_compaction.proofs.Pasts.{compacted_newest}
+use Rattle.craq_node_invariant.proofs.CompactedPasts.{compacted_newest}
 use Rattle.craq_compact_state.specs.Followed.{AreNextVersions}
 use Rattle.craq_compact_state.proofs.Applicable.{are_next}
 use Rattle.craq_commands.specs.SingleCopy.{after_entries}

@@ -1,6 +1,6 @@
 use Rattle.std.proofs.Common.{sym, ◌∙◌}
 use Rattle.craq_model.specs.Past.{newest_in}
-use Rattle.craq_compaction.specs.Compacted.{compacted_in}
+use Rattle.craq_node_invariant.specs.Compacted.{compacted_in}
 use Rattle.craq_full_history.proofs.Batches.{next_fits}
 use Rattle.craq_compact_history.specs.Stored.{stored}
 use Rattle.craq_compact_history.proofs.history.CompactingHistoryHistory.are_next.Goals as goal

@@ -2,7 +2,7 @@ use Rattle.std.proofs.Common.{◌≡◌, take, drop}
 use Rattle.craq_commands.specs.SingleCopy.{after_entries}
 use Rattle.craq_model.specs.Deliveries.{are_applicable}
 use Rattle.craq_model.specs.Past.{newest_in}
-use Rattle.craq_compaction.specs.Compacted.{compacted_in}
+use Rattle.craq_node_invariant.specs.Compacted.{compacted_in}
 use Rattle.craq_compact_history.specs.Stored.{stored}
 use Rattle.craq_compact_history.proofs.history.CompactingHistoryHistory.are_next.Given as goal
 

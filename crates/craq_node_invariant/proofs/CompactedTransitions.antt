@@ -14,8 +14,8 @@ use Rattle.craq_model.specs.Parts.{gathered_position}
 use Rattle.craq_model.specs.Plain.{Plain, successor, predecessor, is_last, is_tail, entries_after, newest, clean}
 use Rattle.craq_model.specs.Sends.{send, send_all, to_neighbour, entry_bodies, catch_up, queries, ready_sends, unready_sends, tick_sends}
 use Rattle.craq_model.specs.Settle.{Transition, transition_with, transition_ignoring, read_answer, update_given, by_ticket, answer_outs, all_given, settling_transition, is_reached, without_reached, readiness_transition}
-use Rattle.craq_compaction.specs.Compacted.{remembered}
-use Rattle.craq_compaction.proofs.Pasts.{AreAlike, same_acknowledged, same_length, same_newest, same_clean, same_entries, alike_committed}
+use Rattle.craq_node_invariant.specs.Compacted.{remembered}
+use Rattle.craq_node_invariant.proofs.CompactedPasts.{AreAlike, same_acknowledged, same_length, same_newest, same_clean, same_entries, alike_committed}
 
 -- the node with another past
 abbrev pub with_past : Plain → Past → Plain

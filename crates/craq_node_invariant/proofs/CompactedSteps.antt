@@ -16,13 +16,13 @@ use Rattle.craq_model.specs.Plain.{Plain}
 use Rattle.craq_model.specs.Sends.{tick_sends}
 use Rattle.craq_model.specs.Settle.{Transition, transition_ignoring}
 use Rattle.craq_node_invariant.specs.Sound.{IsSound}
-use Rattle.craq_compaction.specs.Compacted.{compacted_in, remembered, remembered_transition, HoldsCommitted}
-use Rattle.craq_compaction.proofs.Pasts.{AreAlike, alike_compacted}
-use Rattle.craq_compaction.proofs.Positions.{AreLast, last_in, last_compacted}
-use Rattle.craq_compaction.proofs.Transitions.{with_past, SameTransition, branch, same_node, same_outs, same_ignoring, same_tick_sends}
-use Rattle.craq_compaction.proofs.Messages.{same_config, same_floor, same_entries_transition, same_ack, same_query, same_version}
-use Rattle.craq_compaction.proofs.Copies.{same_blank, same_copy, same_part}
-use Rattle.craq_compaction.proofs.Asks.{SameResult, same_ask}
+use Rattle.craq_node_invariant.specs.Compacted.{compacted_in, remembered, remembered_transition, HoldsCommitted}
+use Rattle.craq_node_invariant.proofs.CompactedPasts.{AreAlike, alike_compacted}
+use Rattle.craq_node_invariant.proofs.CompactedPositions.{AreLast, last_in, last_compacted}
+use Rattle.craq_node_invariant.proofs.CompactedTransitions.{with_past, SameTransition, branch, same_node, same_outs, same_ignoring, same_tick_sends}
+use Rattle.craq_node_invariant.proofs.CompactedMessages.{same_config, same_floor, same_entries_transition, same_ack, same_query, same_version}
+use Rattle.craq_node_invariant.proofs.CompactedCopies.{same_blank, same_copy, same_part}
+use Rattle.craq_node_invariant.proofs.CompactedAsks.{SameResult, same_ask}
 
 -- ---- alike pasts
 

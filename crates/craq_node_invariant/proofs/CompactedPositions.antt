@@ -6,7 +6,7 @@ use Rattle.craq_commands.specs.declared.entry.Entry.{Entry}
 use Rattle.craq_model.specs.Past.{Past, last_position}
 use Rattle.craq_node_invariant.specs.Sound.{AreInRow}
 use Rattle.craq_node_invariant.proofs.Rows.{row_take}
-use Rattle.craq_compaction.specs.Compacted.{compacted_in, HoldsCommitted}
+use Rattle.craq_node_invariant.specs.Compacted.{compacted_in, HoldsCommitted}
 
 last_both : (client found : ℕ) (es fs : List Entry) → last_position client found (es ++ fs) ≡ last_position client (last_position client found es) fs
 unfolding last_position

@@ -1,5 +1,5 @@
-use Rattle.craq_compaction.proofs.Steps.{transition_remembered, step_remembered}
-use Rattle.craq_compaction.proofs.memory_decides_steps.Goals as goal
+use Rattle.craq_node_invariant.proofs.CompactedSteps.{transition_remembered, step_remembered}
+use Rattle.craq_node_invariant.proofs.memory_decides_steps.Goals as goal
 
 pub returns-clause-transition : goal.returns-clause-transition
 returns-clause-transition c = transition_remembered

@@ -8,7 +8,7 @@ use Rattle.craq_commands.specs.declared.state.State.{State}
 use Rattle.craq_commands.specs.SingleCopy.{after_entries}
 use Rattle.craq_commands.proofs.Entries.{after_entries-append}
 use Rattle.craq_model.specs.Past.{Past, length_in, entries_in, newest_in, clean_in, with_entries_in, acknowledged_in}
-use Rattle.craq_compaction.specs.Compacted.{compacted_in, HoldsCommitted}
+use Rattle.craq_node_invariant.specs.Compacted.{compacted_in, HoldsCommitted}
 
 -- ---- states after entries
 

@@ -7,7 +7,7 @@ use Rattle.craq_node_invariant.specs.Sound.{AreInRow, IsSound}
 use Rattle.craq_node_invariant.proofs.Applicable.{applicable_drop}
 use Rattle.craq_node_invariant.proofs.Rows.{row_drop}
 use Rattle.craq_node_invariant.proofs.States.{clean_is}
-use Rattle.craq_compaction.specs.Compacted.{remembered}
+use Rattle.craq_node_invariant.specs.Compacted.{remembered}
 
 next_after : (base acknowledged : ℕ) → base ≤ acknowledged → base + 1 + (acknowledged - base) ≡ acknowledged + 1
 next_after base acknowledged h = omega (arith, h)

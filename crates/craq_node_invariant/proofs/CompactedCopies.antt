@@ -15,8 +15,8 @@ use Rattle.craq_model.specs.Plain.{Plain, successor, predecessor, clean}
 use Rattle.craq_model.specs.Sends.{send_all, copy_bodies, catch_up}
 use Rattle.craq_model.specs.Settle.{Transition, transition_with, transition_ignoring, readiness_transition}
 use Rattle.craq_model.specs.Deliveries.{fill_bodies, blank_transition, copy_transition, gathered_transition, gathering_transition, part_transition}
-use Rattle.craq_compaction.proofs.Pasts.{AreAlike, same_acknowledged, same_length}
-use Rattle.craq_compaction.proofs.Transitions.{with_past, SameTransition, branch, same_outs, same_ignoring, clean_alike, same_catch_up}
+use Rattle.craq_node_invariant.proofs.CompactedPasts.{AreAlike, same_acknowledged, same_length}
+use Rattle.craq_node_invariant.proofs.CompactedTransitions.{with_past, SameTransition, branch, same_outs, same_ignoring, clean_alike, same_catch_up}
 
 same_fill : (p : Plain) (h k : Past) (count : ℕ) → AreAlike h k → fill_bodies (with_past p h) count ≡ fill_bodies (with_past p k) count
 unfolding fill_bodies

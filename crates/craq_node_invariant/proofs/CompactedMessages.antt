@@ -15,8 +15,8 @@ use Rattle.craq_model.specs.Plain.{Plain, id_of, successor, predecessor, is_tail
 use Rattle.craq_model.specs.Sends.{send, send_all, to_neighbour, entry_bodies}
 use Rattle.craq_model.specs.Settle.{Transition, transition_with, transition_ignoring, read_answer, update_given, answer_outs, settling_transition, readiness_transition}
 use Rattle.craq_model.specs.Deliveries.{config_transition, are_applicable, forwarding_transition, taken_entries_transition, appending_transition, final_position, first_position, entries_above, entries_transition, pending_updates, later_updates, acknowledgement_transition, ack_transition, query_transition, read_with, reads_without, reported_version_transition, version_transition, floor_transition}
-use Rattle.craq_compaction.proofs.Pasts.{AreAlike, same_acknowledged, same_length, same_clean, same_later, alike_append, alike_acknowledge, alike_committed}
-use Rattle.craq_compaction.proofs.Transitions.{with_past, SameTransition, branch, same_outs, same_ignoring, newest_alike, clean_alike, same_settling, same_readiness}
+use Rattle.craq_node_invariant.proofs.CompactedPasts.{AreAlike, same_acknowledged, same_length, same_clean, same_later, alike_append, alike_acknowledge, alike_committed}
+use Rattle.craq_node_invariant.proofs.CompactedTransitions.{with_past, SameTransition, branch, same_outs, same_ignoring, newest_alike, clean_alike, same_settling, same_readiness}
 
 -- ---- memberships and floors
 

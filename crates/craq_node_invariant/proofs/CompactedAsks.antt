@@ -25,10 +25,10 @@ use Rattle.craq_model.specs.Plain.{Plain, id_of, successor, is_first, is_last, n
 use Rattle.craq_model.specs.Sends.{send, send_all, to_neighbour, entry_bodies}
 use Rattle.craq_model.specs.Settle.{Transition, read_answer}
 use Rattle.craq_model.specs.Asks.{accepted_transition, answered_transition, is_full, versioned_write, committed_if_last, reply_transition, new_update_transition, update_transition, waiting_read_transition, read_transition, asked_objects, accepted_ask_transition, ask_transition}
-use Rattle.craq_compaction.proofs.Pasts.{AreAlike, same_acknowledged, same_length, alike_append, alike_committed}
-use Rattle.craq_compaction.proofs.Positions.{AreLast, last_in}
-use Rattle.craq_compaction.proofs.Transitions.{with_past, SameTransition, branch, same_node, newest_alike, clean_alike}
-use Rattle.craq_compaction.proofs.Messages.{same_within}
+use Rattle.craq_node_invariant.proofs.CompactedPasts.{AreAlike, same_acknowledged, same_length, alike_append, alike_committed}
+use Rattle.craq_node_invariant.proofs.CompactedPositions.{AreLast, last_in}
+use Rattle.craq_node_invariant.proofs.CompactedTransitions.{with_past, SameTransition, branch, same_node, newest_alike, clean_alike}
+use Rattle.craq_node_invariant.proofs.CompactedMessages.{same_within}
 
 -- equal transitions, or equal refusals
 abbrev pub SameResult : Result Transition Refusal → Result Transition Refusal → Type 0

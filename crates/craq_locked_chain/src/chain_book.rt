@@ -10,7 +10,7 @@ ghost use Rattle.craq_seat.specs.Calls.{receipt_in};
 ghost use Rattle.craq_seat.specs.Cells.{receipt_of};
 ghost use Rattle.craq_seat.specs.Numbered.{numbered_from};
 ghost use Rattle.craq_seat.specs.Taken.{TakesTransition};
-ghost use Rattle.craq_sending.specs.Sent.{AreSentAs};
+ghost use Rattle.craq_store_parts.specs.Encoded.{AreSentAs};
 ghost use Rattle.craq_store_history.specs.Chains.{IsHistory};
 ghost use Rattle.craq_store_history.specs.Entries.{lines_in, members_in};
 ghost use Rattle.craq_store_parts.specs.Recorded.{BookHadLinesIn, BookHasLinesIn, IsUnmoved};

@@ -17,9 +17,8 @@ use craq_node::Core;
 use craq_running_node::{
     Asked, CallRefusal, Delivery, Gate, OwnAsk, OwnReply, QueuedAsk, RunningNode, Work, refuse_own,
 };
-use craq_sending::Kind;
 use craq_store_history::{Entry, StoreRule};
-use craq_store_parts::{Messages, Outgoing, Refused, StoreHistory, Wire};
+use craq_store_parts::{Kind, Messages, Outgoing, Refused, StoreHistory, Wire};
 use std::alloc::Global;
 use std::sync::{Mutex, Wait};
 

@@ -12,8 +12,8 @@ ghost use Rattle.craq_seat.specs.Calls.{Called};
 ghost use Rattle.craq_seat.specs.Cells.{receipt_of};
 ghost use Rattle.craq_store_parts.specs.Recorded.{HaveReplied, MayHappen};
 ghost use Rattle.craq_seat.specs.Numbered.{CanBeSent, numbered_from};
-ghost use Rattle.craq_sending.specs.declared.sending.Kind.TheVariants as kinds;
-ghost use Rattle.craq_sending.specs.Sent.{AreSentAs, OnlySends, entries_from, lone_position};
+ghost use Rattle.craq_store_parts.specs.declared.encoding.Kind.TheVariants as kinds;
+ghost use Rattle.craq_store_parts.specs.Encoded.{AreSentAs, OnlySends, entries_from, lone_position};
 ghost use Rattle.craq_running_node.specs.Replies.{IsReplyTo, Keeps, RefusesAsked, RefusesOwn, RefusesQueued, RefusesStep, Settles, TakesOwn, TakesQueued, TellsCallers, Waits, in_hand, is_own, others_of, own_receipt, replies_to, said_by, said_to, ticket_in, ticket_of, waiting_after, without_memory};
 
 use crate::asked::{Asked, Destination, OwnAsk, QueuedAsk};
@@ -27,10 +27,10 @@ use craq_model::{Event, Out, Step};
 use craq_names::{NodeName, Pass, Refusal, Seq, Ticket};
 use craq_node::Core;
 use craq_seat::{BookCell, CallReceipt, Cell, Receipt, TicketQueue};
-use craq_sending::{LoneAck, Sent, encode_entries, encode_sent, lone_entry};
 use craq_store_parts::{
-    AcceptedCall, Cause, MadeAsk, Messages, Origin, OwedAck, RecordedBook, RecordedDesk, StepCalls,
-    StepReceipt, StoreHistory, StoreToken,
+    AcceptedCall, Cause, LoneAck, MadeAsk, Messages, Origin, OwedAck, RecordedBook, RecordedDesk,
+    Sent, StepCalls, StepReceipt, StoreHistory, StoreToken, encode_entries, encode_sent,
+    lone_entry,
 };
 use std::alloc::{AllocError, AllocFailed, Global};
 use std::mem;

@@ -1,3 +1,4 @@
+pub mod SentOrder
 pub mod Running
 pub mod Recording
 pub mod Sending

@@ -11,8 +11,8 @@ use Rattle.craq_seat.specs.Numbered.{numbered_from}
 use Rattle.craq_causality.specs.Causal.{WasSent}
 use Rattle.craq_causality.proofs.Arrivals.{named_from}
 use Rattle.craq_causality.proofs.Orders.{IsIn, all_by}
-use Rattle.craq_sending.specs.declared.sending.Sent.{Sent}
-use Rattle.craq_sending.specs.Sent.{AreSentAs, brings_from, entries_from}
+use Rattle.craq_store_parts.specs.declared.encoding.Sent.{Sent}
+use Rattle.craq_store_parts.specs.Encoded.{AreSentAs, brings_from, entries_from}
 use Rattle.craq_store_history.specs.declared.entry.Entry.{Entry}
 use Rattle.craq_store_history.specs.Entries.{lines_in}
 use Rattle.craq_store_parts.specs.Recorded.{HasStep}

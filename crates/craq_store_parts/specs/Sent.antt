@@ -9,8 +9,8 @@ use Rattle.craq_seat.specs.declared.journal.Receipt.{Receipt}
 use Rattle.craq_model.specs.declared.ask.Ask.{Ask}
 use Rattle.craq_model.specs.declared.message.LinkMessage.{LinkMessage}
 use Rattle.craq_wire.specs.Encoding.{Encodes}
-use Rattle.craq_sending.specs.declared.sending.Kind.{Kind}
-use Rattle.craq_sending.specs.declared.sending.Sent.{Sent}
+use Rattle.craq_store_parts.specs.declared.encoding.Kind.{Kind}
+use Rattle.craq_store_parts.specs.declared.encoding.Sent.{Sent}
 use Rattle.craq_causality.specs.Causal.{WasSent}
 use Rattle.craq_ghost_history.specs.declared.author.Author.TheVariants.{Client}
 use Rattle.craq_ghost_history.specs.Histories.{IsAdded, Written}
@@ -21,7 +21,7 @@ use Rattle.craq_store_history.specs.Entries.{author_of, lines_in}
 use Rattle.craq_store_history.specs.Steps.{MayMake}
 
 -- in this history a node of the chain, or its master, sent a message that these bytes encode
-pub record IsSentAs (chain : ℕ) (bytes : List ℕ) (log : List Entry) : Type 0 where
+pub record AreSentBytes (chain : ℕ) (bytes : List ℕ) (log : List Entry) : Type 0 where
   pub message : LinkMessage
   pub spelled : Encodes message bytes
   pub sent : WasSent (lines_in chain log) message
@@ -33,7 +33,7 @@ pub record Wired : Type 0 where
 
 -- in this history each of these messages was sent
 abbrev pub AreWired : ℕ → List Entry → List Sent → Type 0
-AreWired chain log sent = AllByRecursion (λ (s : Sent). IsSentAs chain s.bytes log) sent
+AreWired chain log sent = AllByRecursion (λ (s : Sent). AreSentBytes chain s.bytes log) sent
 
 -- the view that contracts have of messages that leave a node of a chain, in order
 pub record Leaving : Type 0 where

@@ -2,14 +2,20 @@
 //! calls from request to reply. What travels carries a token of the history, which has no bytes,
 //! and its type keeps the fact. `craq_running_node` and `craq_workers` can put them in place of
 //! their own.
+//!
+//! Encodes what a step sends: all its messages, or those alone that bring entries. Tells the two
+//! kinds of steps that can wait: one that only sends an entry, and one that only acknowledges
+//! (`LoneAck`), which can be encoded after later steps.
 #![tactic(auto)]
 
 mod answered_call;
 mod at;
 mod call_made;
 mod cause;
+mod encoding;
 mod joined_node;
 mod limits;
+mod lone_ack;
 mod made_ask;
 mod messages;
 mod recorded_book;
@@ -25,7 +31,9 @@ pub use call_made::CallMade;
 pub use cause::{Cause, Origin};
 use craq_ghost_history::{Grant, History, Token, Writer};
 use craq_store_history::{Entry, StoreRule};
+pub use encoding::{Kind, Sent, encode_entries, encode_sent, lone_entry};
 pub use joined_node::{JoinedNode, open_joined};
+pub use lone_ack::LoneAck;
 pub use made_ask::MadeAsk;
 pub use messages::{Messages, Outgoing, OwedAck};
 pub use recorded_book::RecordedBook;

@@ -1,15 +1,14 @@
 //! `Messages` and `OwedAck`: what a node's step sends, with a token that has seen the step.
 ghost use Rattle.std.specs.Prelude.{◌≡◌, ◌==◌, ◌∷◌, [], length, IfOk, IfSome, IsNone, None};
 ghost use Rattle.craq_causality.specs.Causal.{WasSent};
-ghost use Rattle.craq_sending.specs.Sent.{IsSentAs, MakesNeedless};
+ghost use Rattle.craq_store_parts.specs.Encoded.{IsSentAs, MakesNeedless};
 ghost use Rattle.craq_store_history.specs.Entries.{lines_in};
 ghost use Rattle.craq_store_parts.specs.Sent.{AreWired, IsOutgoing};
 
 use crate::wire::Wire;
-use crate::{StoreHistory, StoreToken};
+use crate::{Kind, LoneAck, Sent, StoreHistory, StoreToken};
 use craq_ghost_history::Named;
 use craq_names::{ChainId, NodeId};
-use craq_sending::{Kind, LoneAck, Sent};
 use std::alloc::{AllocError, Global};
 use std::marker::Model;
 use std::vec::IntoIter;

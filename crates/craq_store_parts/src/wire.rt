@@ -2,7 +2,7 @@
 ghost use Rattle.std.specs.Prelude.{◌≡◌, IfOk};
 ghost use Rattle.craq_causality.specs.Causal.{WasSent};
 ghost use Rattle.craq_store_history.specs.Entries.{lines_in};
-ghost use Rattle.craq_store_parts.specs.Sent.{IsSentAs};
+ghost use Rattle.craq_store_parts.specs.Sent.{AreSentBytes};
 ghost use Rattle.craq_wire.specs.Encoding.{Encodes};
 
 use crate::{StoreHistory, StoreToken};
@@ -24,19 +24,19 @@ pub struct Wire<N: Named> {
 }
 
 impl<N: Named> Model for Wire<N> {
-    ghost use Rattle.craq_store_parts.specs.Sent.{IsSentAs, Wired};
+    ghost use Rattle.craq_store_parts.specs.Sent.{AreSentBytes, Wired};
 
     ghost Value = { Wired };
 
     ghost view = { λ w. record { chain = w.chain; bytes = w.bytes } };
 
-    ghost invariant = { λ w. IsSentAs w.chain w.bytes w.token };
+    ghost invariant = { λ w. AreSentBytes w.chain w.bytes w.token };
 }
 
 impl<N: Named> Wire<N> {
     /// Puts bytes on their way that encode a message which was sent in the token's history.
     pub fn new(chain: ChainId, bytes: Bytes, token: StoreToken<N>) -> Self
-        requires { IsSentAs chain bytes token }
+        requires { AreSentBytes chain bytes token }
         ensures chain { result.chain ≡ chain }
         ensures bytes { result.bytes ≡ bytes }
     {

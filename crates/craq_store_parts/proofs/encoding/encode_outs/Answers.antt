@@ -1,5 +1,5 @@
-use Rattle.craq_sending.proofs.Order.{adds_next, all_sent, begins, can_add}
-use Rattle.craq_sending.proofs.sending.encode_outs.Goals as goal
+use Rattle.craq_store_parts.proofs.SentOrder.{adds_next, all_sent, begins, can_add}
+use Rattle.craq_store_parts.proofs.encoding.encode_outs.Goals as goal
 
 pub loop-out-init : goal.loop-out-init
 loop-out-init c = begins c.args.receipt.now c.args.outs.now c.new-sent.result.items c.new-sent.ensures.items c.requires.few c.requires.spelled

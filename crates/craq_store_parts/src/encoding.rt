@@ -5,8 +5,8 @@ ghost use Rattle.std.specs.List.{AllByRecursion, list_any};
 ghost use Rattle.craq_runs.specs.Chain.{sent_in};
 ghost use Rattle.craq_seat.specs.Numbered.{CanBeSent, named, numbered_from};
 ghost use Rattle.craq_model.specs.Encodable.{IsEncodable};
-ghost use Rattle.craq_sending.specs.declared.sending.Kind.TheVariants as kinds;
-ghost use Rattle.craq_sending.specs.Sent.{Adds, AreSentAs, CanAdd, IsSentAs, OnlySends, brings_from, entries_from, link_class, lone_position};
+ghost use Rattle.craq_store_parts.specs.declared.encoding.Kind.TheVariants as kinds;
+ghost use Rattle.craq_store_parts.specs.Encoded.{Adds, AreSentAs, CanAdd, IsSentAs, OnlySends, brings_from, entries_from, link_class, lone_position};
 
 use bytes::Bytes;
 use craq_commands::Entry;

@@ -10,8 +10,8 @@ use Rattle.craq_model.specs.Encodable.{IsEncodable}
 use Rattle.craq_runs.specs.Chain.{sent_in}
 use Rattle.craq_seat.specs.declared.journal.Receipt.{Receipt}
 use Rattle.craq_seat.specs.Numbered.{named, numbered_from}
-use Rattle.craq_sending.specs.declared.sending.Sent.{Sent}
-use Rattle.craq_sending.specs.Sent.{Adds, AreSentAs, CanAdd, IsSentAs, brings_from, entries_from}
+use Rattle.craq_store_parts.specs.declared.encoding.Sent.{Sent}
+use Rattle.craq_store_parts.specs.Encoded.{Adds, AreSentAs, CanAdd, IsSentAs, brings_from, entries_from}
 
 -- these are sent as the first of the messages, and the rest is to come
 abbrev pub Begins : List Sent → List LinkMessage → List LinkMessage → Type 0

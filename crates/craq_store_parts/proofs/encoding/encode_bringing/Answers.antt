@@ -1,7 +1,7 @@
 use Rattle.std.proofs.Common.{◌∙◌, sym, arith}
-use Rattle.craq_sending.proofs.Order.{all_brought, brings_begin, next_answered, next_index, next_left, next_sent}
-use Rattle.craq_sending.proofs.sending.encode_bringing.Goals as goal
-use Rattle.craq_sending.proofs.sending.encode_bringing.Goals.{in-Answer, in-Send, else-brings_from, then-brings_from+in_ok-encode_one-in-Send+in_ok-push-in-Send}
+use Rattle.craq_store_parts.proofs.SentOrder.{all_brought, brings_begin, next_answered, next_index, next_left, next_sent}
+use Rattle.craq_store_parts.proofs.encoding.encode_bringing.Goals as goal
+use Rattle.craq_store_parts.proofs.encoding.encode_bringing.Goals.{in-Answer, in-Send, else-brings_from, then-brings_from+in_ok-encode_one-in-Send+in_ok-push-in-Send}
 
 pub loop-out-init : goal.loop-out-init
 loop-out-init c = brings_begin c.args.first c.args.receipt.now c.args.outs.now c.new-sent.result.items c.new-sent.ensures.items c.requires.few c.requires.spelled

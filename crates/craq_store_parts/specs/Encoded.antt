@@ -11,9 +11,9 @@ use Rattle.craq_model.specs.Encodable.{IsEncodable}
 use Rattle.craq_wire.specs.Encoding.{Encodes}
 use Rattle.craq_seat.specs.declared.journal.Receipt.{Receipt}
 use Rattle.craq_seat.specs.Numbered.{named}
-use Rattle.craq_sending.specs.declared.sending.Kind.{Kind}
-use Rattle.craq_sending.specs.declared.sending.Kind.TheVariants as kinds
-use Rattle.craq_sending.specs.declared.sending.Sent.{Sent}
+use Rattle.craq_store_parts.specs.declared.encoding.Kind.{Kind}
+use Rattle.craq_store_parts.specs.declared.encoding.Kind.TheVariants as kinds
+use Rattle.craq_store_parts.specs.declared.encoding.Sent.{Sent}
 
 abbrev pub link_class : Body → Kind
 link_class (bodies.Config members) = kinds.Other

@@ -4,8 +4,8 @@ ghost use Rattle.std.specs.Prelude.{◌≡◌, ◌∷◌, [], IfOk, IfSome, IsNo
 ghost use Rattle.craq_runs.specs.Chain.{sent_in};
 ghost use Rattle.craq_model.specs.Encodable.{IsEncodable};
 ghost use Rattle.craq_seat.specs.Numbered.{CanBeSent, named, numbered_from};
-ghost use Rattle.craq_sending.specs.declared.sending.Kind.TheVariants as kinds;
-ghost use Rattle.craq_sending.specs.Sent.{CanAdd, IsSentAs, MakesNeedless, OnlySends, Sends, link_class};
+ghost use Rattle.craq_store_parts.specs.declared.encoding.Kind.TheVariants as kinds;
+ghost use Rattle.craq_store_parts.specs.Encoded.{CanAdd, IsSentAs, MakesNeedless, OnlySends, Sends, link_class};
 
 use crate::{Kind, Sent};
 use craq_model::{Body, LinkMessage, Out, Step};

@@ -10,7 +10,7 @@ use craq_frames::{ClientMessage, ClientReply};
 use craq_front::{Stream, exchange};
 use craq_model::{Answer, Ask};
 use craq_names::{NodeId, Pass, Refusal};
-use craq_text::{asked_update, print_answer, print_refusal, read_of};
+use craq_script::{asked_update, print_answer, print_refusal, read_of};
 use std::alloc::{AllocError, Global};
 use std::io::ErrorKind;
 use std::net::{Net, TcpListener, TcpStream, ToSocketAddrs};

@@ -4,7 +4,7 @@ use craq_cli::{ValueForm, VerbOptions};
 use craq_commands::Reply;
 use craq_frames::ClientReply;
 use craq_names::{NodeId, Value, Version};
-use craq_text::print_reply;
+use craq_script::print_reply;
 use serde_json::Value as Json;
 use std::alloc::{AllocError, Global};
 

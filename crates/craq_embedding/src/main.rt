@@ -12,8 +12,8 @@ use craq_names::{
     ChainId, ClientId, Key, NodeId, NodeName, ObjectId, Pass, Refusal, RequestNo, Value,
 };
 use craq_place::Plan;
+use craq_script::print_answer;
 use craq_seat::CallReceipt;
-use craq_text::print_answer;
 use craq_workers::{At, Client, Named, OpenGate, OpenedHistory, Store, open_history};
 use std::alloc::{AllocError, Global};
 use std::marker::Brand;

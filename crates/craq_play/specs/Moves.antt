@@ -9,7 +9,7 @@ use Rattle.craq_runs.specs.declared.run.Move.{Move}
 use Rattle.craq_runs.specs.declared.run.Move.TheVariants as moves
 use Rattle.craq_script.specs.declared.line.ScriptLine.{ScriptLine}
 use Rattle.craq_script.specs.declared.line.ScriptLine.TheVariants as lines
-use Rattle.craq_text.specs.Asked.{asked_update, read_of}
+use Rattle.craq_script.specs.Asked.{asked_update, read_of}
 
 -- a request to a node; only chain 0 exists
 abbrev pub asked_move : ℕ → Result Ask Refusal → Result (Option Move) Refusal

@@ -10,7 +10,7 @@ use Rattle.craq_chain.specs.Chained.{Chained, after_taking, chain_of_run, mover,
 use Rattle.craq_play.specs.Explained.{explanation_text}
 use Rattle.craq_script.specs.declared.line.ScriptLine.{ScriptLine}
 use Rattle.craq_script.specs.Texts.{script_of}
-use Rattle.craq_text.specs.Printed.{refusal_text}
+use Rattle.craq_script.specs.Printed.{refusal_text}
 use Rattle.craq_play.specs.Printed.{step_text}
 use Rattle.craq_play.specs.Moves.{move_of}
 

@@ -11,7 +11,7 @@ use Rattle.craq_model.specs.declared.step.Out.TheVariants as outs
 use Rattle.craq_model.specs.declared.step.Step.{Step}
 use Rattle.craq_model.specs.declared.step.Why.{Why}
 use Rattle.craq_model.specs.declared.step.Why.TheVariants as whys
-use Rattle.craq_text.specs.Printed.{answer_text}
+use Rattle.craq_script.specs.Printed.{answer_text}
 
 -- entries in one message, by the positions of the first and the last entry
 unfoldable pub batch_text : List Entry → List ℕ

@@ -14,8 +14,7 @@ mod playing;
 mod printing;
 mod reading;
 
-pub use craq_script::Script;
-pub use craq_text::{asked_update, print_answer, print_refusal, print_reply, read_of};
+pub use craq_script::{Script, asked_update, print_answer, print_refusal, print_reply, read_of};
 pub use explanation::explanation_text;
 pub use fault::PlayFault;
 pub use json_error::{JsonError, Member};

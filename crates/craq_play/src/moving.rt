@@ -1,13 +1,12 @@
 //! Turns a script line into a move, or refuses it before the chain sees it.
 ghost use Rattle.std.specs.Prelude.{◌≡◌, Ok};
-ghost use Rattle.craq_text.specs.Asked.{AskedOrRefused};
+ghost use Rattle.craq_script.specs.Asked.{AskedOrRefused};
 ghost use Rattle.craq_play.specs.Moves.{asked_move, move_of};
 
 use craq_model::Ask;
 use craq_names::{NodeId, Refusal};
 use craq_runs::Move;
-use craq_script::ScriptLine;
-use craq_text::{asked_update, read_of};
+use craq_script::{ScriptLine, asked_update, read_of};
 use std::alloc::Global;
 
 /// Returns the move that sends a request to a node of chain 0. `UnknownChain` if the request is for

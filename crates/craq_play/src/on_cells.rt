@@ -3,7 +3,7 @@
 ghost use Rattle.std.specs.Prelude.{◌≡◌, ◌++◌, ◌∷◌, [], ◌≤◌, List, IfErr, IfOk, OnOk, string_bytes};
 ghost use Rattle.craq_runs.specs.declared.run.Taken.{Taken};
 ghost use Rattle.craq_play.specs.Moves.{move_of};
-ghost use Rattle.craq_text.specs.Printed.{refusal_text};
+ghost use Rattle.craq_script.specs.Printed.{refusal_text};
 ghost use Rattle.craq_play.specs.Printed.{step_text};
 ghost use Rattle.craq_play.specs.Played.{after_line, after_one, line_text, move_text, played, played_text};
 ghost use Rattle.craq_play.specs.OnCells.{EndsPlay, PlaysOnCells};
@@ -18,8 +18,7 @@ use craq_model::Step;
 use craq_names::{ChainId, NodeId, Pass, Refusal, Same};
 use craq_node::Core;
 use craq_runs::{Move, Run};
-use craq_script::{Script, ScriptLine};
-use craq_text::print_refusal;
+use craq_script::{Script, ScriptLine, print_refusal};
 use std::alloc::{AllocError, Global};
 use std::sync::Wait;
 

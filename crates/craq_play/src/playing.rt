@@ -22,8 +22,7 @@ use crate::printing::print_step;
 use craq_names::{NodeId, Refusal};
 use craq_node::Core;
 use craq_runs::{Move, Run};
-use craq_script::ScriptLine;
-use craq_text::print_refusal;
+use craq_script::{ScriptLine, print_refusal};
 use std::alloc::{AllocError, Global};
 
 /// Returns the ids from 1 to `count`.

@@ -7,7 +7,7 @@ ghost use Rattle.craq_play.specs.Printed.{batch_text, part_text, message_text, o
 use craq_commands::Entry;
 use craq_model::{Body, LinkMessage, Out, StatePart, Step, Why};
 use craq_names::NodeId;
-use craq_text::print_answer;
+use craq_script::print_answer;
 use std::alloc::AllocError;
 
 /// Returns the position of the first entry, or 0 if there are no entries.

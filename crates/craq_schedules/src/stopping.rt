@@ -2,7 +2,7 @@
 ghost use Rattle.std.specs.Prelude.{◌≡◌, ◌≤◌, ◌+◌, ◌++◌, Bool, length, IfOk, OnOk, string_bytes};
 ghost use Rattle.craq_runs.specs.declared.explanation.Explanation.{Explanation};
 ghost use Rattle.craq_runs.specs.declared.run.Run.{Run};
-ghost use Rattle.craq_text.specs.Asked.{AskedOrRefused};
+ghost use Rattle.craq_script.specs.Asked.{AskedOrRefused};
 ghost use Rattle.craq_play.specs.Moves.{move_of};
 ghost use Rattle.craq_play.specs.Played.{Plays, after_line, after_one};
 ghost use Rattle.craq_schedules.specs.Stopped.{after_lines, replayed_chain, cut_line, cut_text, delivered, stopped, stops_text, up_to, without_node};

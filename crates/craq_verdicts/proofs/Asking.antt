@@ -23,7 +23,7 @@ use Rattle.craq_script.specs.declared.line.ScriptLine.{ScriptLine}
 use Rattle.craq_script.specs.declared.line.ScriptLine.TheVariants as lines
 use Rattle.craq_script.specs.declared.line.ScriptObject.{ScriptObject}
 use Rattle.craq_script.specs.declared.line.UpdateLine.{UpdateLine}
-use Rattle.craq_text.specs.Asked.{command_of, has_key, is_value, lists_of, numbered, objects_named, read_of, transaction_command, asked_update, values_given}
+use Rattle.craq_script.specs.Asked.{command_of, has_key, is_value, lists_of, numbered, objects_named, read_of, transaction_command, asked_update, values_given}
 use Rattle.craq_play.specs.Moves.{asked_move, move_of}
 
 -- a property of a result holds too after a test that refuses

@@ -2,7 +2,7 @@
 //! `craq_embedding`.
 ghost use Rattle.std.specs.Prelude.{◌≡◌, ◌++◌, OnOk, string_bytes};
 ghost use Rattle.std.specs.List.{flat_map};
-ghost use Rattle.craq_text.specs.Printed.{byte_text, value_text, object_text, reply_text, answer_text, refusal_text};
+ghost use Rattle.craq_script.specs.Printed.{byte_text, value_text, object_text, reply_text, answer_text, refusal_text};
 
 use craq_commands::Reply;
 use craq_model::Answer;

@@ -1,6 +1,6 @@
 use Rattle.std.proofs.Common.{false, arith}
 use Rattle.std.proofs.lemmas.Fmt.{hex_byte}
-use Rattle.craq_text.proofs.printing.print_byte.Goals as goal
+use Rattle.craq_script.proofs.printing.print_byte.Goals as goal
 
 pub returns : goal.returns
 returns c =

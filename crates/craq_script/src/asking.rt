@@ -3,12 +3,12 @@
 ghost use Rattle.std.specs.Prelude.{◌≡◌, map, IfOk};
 ghost use Rattle.std.specs.List.{list_all, flat_map};
 ghost use Rattle.craq_commands.specs.Transaction.{mini_of};
-ghost use Rattle.craq_text.specs.Asked.{has_key, is_value, item_object, item_value, objects_named, values_given, named, item_compare, item_read, item_write, lists_of, command_of, asked_update, read_of, AskedOrRefused};
+ghost use Rattle.craq_script.specs.Asked.{has_key, is_value, item_object, item_value, objects_named, values_given, named, item_compare, item_read, item_write, lists_of, command_of, asked_update, read_of, AskedOrRefused};
 
+use crate::{MiniItem, ScriptCommand, ScriptObject, UpdateLine};
 use craq_commands::{Command, Mini, ReadMode, Update};
 use craq_model::Ask;
 use craq_names::{Items, Key, ObjectId, Refusal, RequestNo, Value, Version};
-use craq_script::{MiniItem, ScriptCommand, ScriptObject, UpdateLine};
 use std::alloc::{AllocError, Global};
 
 /// Returns true if the object's key has 1 to 128 bytes.

@@ -1,5 +1,7 @@
 //! The promise for the running store: each call stands in a run of its chain, and each such run has
-//! a valid explanation. States laws: functions without bodies, whose contracts are the theorems.
+//! a valid explanation. A crate of its own, so that `craq_causality` needs no part of the main
+//! theorem.
+//! States laws: functions without bodies, whose contracts are the theorems.
 #![tactic(auto)]
 
 ghost use Rattle.std.specs.Prelude.{◌≡◌, ◌≤◌, ℕ, suc, true, List, Some};
@@ -12,13 +14,24 @@ ghost use Rattle.craq_runs.specs.Seen.{is_strong_ask};
 ghost use Rattle.craq_runs.specs.Typed.{IsTypedRunOf};
 ghost use Rattle.craq_runs.specs.Valid.{IsValid};
 ghost use Rattle.craq_seat.specs.Calls.{Called};
-ghost use Rattle.craq_causality.specs.Causal.{AreFew};
+ghost use Rattle.craq_seat.specs.Merge.{MergedStep, run_of};
+ghost use Rattle.craq_causality.specs.Causal.{AreCausal, AreFew, AreTyped};
 ghost use Rattle.craq_ghost_history.specs.Histories.{AreComparable};
 ghost use Rattle.craq_store_history.specs.declared.entry.Entry.{Entry};
 ghost use Rattle.craq_store_history.specs.Chains.{IsHistory};
 ghost use Rattle.craq_store_history.specs.Entries.{lines_in, members_in};
 ghost use Rattle.craq_store_parts.specs.Witnessed.{IsWitnessed};
 ghost use Rattle.craq_running_promise.specs.Standing.{AnswersAsOneCopy, IsCallOf, StandsIn, run_in};
+
+/// States that lines in causal order, with each request of its type, have a valid explanation: the
+/// one of `explain`, with one growing list of updates and no request number twice. Each strong
+/// reply is that of a single copy after a prefix of the list, which was the whole list at some
+/// moment from its request to its reply. Each eventual reply is a version that requested updates
+/// wrote.
+pub fn causal_lines_are_explained()
+    ensures { (chain : ℕ) (members : List ℕ) (lines : List MergedStep) → AreCausal chain members lines → AreTyped lines → AreFew lines
+        → IsValid (run_of members lines) (explain chain (run_of members lines)) }
+{}
 
 /// States where the calls of a running store's clients stand. `new` is the history that a client has
 /// seen after its call, and `old` the one that it had seen before.

@@ -15,7 +15,8 @@
 - options: docs/use/SERVER.md has craqd's options of craq_cli/src/server.rt and options.rt
 - lists: docs/develop/CHANGING.md lists each file that names the newest command, message or refusal
 - the walk: each function that docs/develop/ARCHITECTURE.md names from socket to socket is in the
-  crate beside it; docs/develop/OPEN.md has the number of these crates
+  crate beside it; that page and docs/develop/OPEN.md have the numbers of their files and crates
+  (tools/pages/walk.py)
 - diagrams: those of docs/diagrams are drawn from their data, and name what is in the sources
 - pictures of runs: those of docs/pictures have no small text, and no label over an arrow or another
 - threads: each function and type that docs/develop/THREADS.md names is in the crate beside it, or
@@ -51,13 +52,14 @@ from tools import repository
 from tools.checks import Checks
 from tools.pages.constants import compare_constants
 from tools.pages.defined import figures_of_claims
-from tools.pages.diagrams import diagrams, is_in, sources_of
+from tools.pages.diagrams import diagrams
 from tools.pages.generated import generated
 from tools.pages.links import links
 from tools.pages.measures import measures
 from tools.pages.runs import pictures_of_runs
 from tools.pages.sizes import sizes
 from tools.pages.surface import surface
+from tools.pages.walk import walk
 
 TOP = repository.TOP
 # The variants by which a file belongs to the list of that part of CHANGING.
@@ -305,23 +307,6 @@ def lists(checks, names):
         for name in naming(names, words):
             checks.that(is_listed(name, places),
                         f"docs/develop/CHANGING.md, {title}: {name} is not in the list")
-
-
-# The walk.
-
-def walk(checks):
-    """Finds each function of the walk from socket to socket in the crate in brackets behind it."""
-    page = "docs/develop/ARCHITECTURE.md"
-    part = section(text_of(page), "From socket to socket", "### ")
-    named = [(function, crate) for names, crate
-             in re.findall(r"((?:`[\w:]+`, )*`[\w:]+`) \(`(craq_\w+)`\)", part)
-             for function in re.findall(r"`([\w:]+)`", names)]
-    checks.that(len(named) > 30, f"{page}: the functions from socket to socket were not found")
-    for function, crate in named:
-        checks.that(is_in(function, sources_of([crate])), f"{page} names {function}, which {crate} has not")
-    count = len({crate for _, crate in named})
-    checks.that(f"passes {count} crates" in text_of("docs/develop/OPEN.md"),
-                f"docs/develop/OPEN.md has to say that a put passes {count} crates")
 
 
 # Limits.

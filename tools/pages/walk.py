@@ -1,0 +1,64 @@
+"""Checks the walk from socket to socket of docs/develop/ARCHITECTURE.md against the sources, and counts
+the files and crates that a put passes there."""
+import glob
+import os
+import re
+
+from tools import repository
+from tools.pages.diagrams import is_in, sources_of
+
+PAGE, OPEN = "docs/develop/ARCHITECTURE.md", "docs/develop/OPEN.md"
+# Functions, and the crate in brackets behind them.
+NAMED = re.compile(r"((?:`[\w:]+`, )*`[\w:]+`) \(`(craq_\w+)`\)")
+
+
+def walk(checks):
+    """Finds each function of the walk in its crate, and compares the counts that the pages give."""
+    text = repository.text_of(PAGE)
+    part = re.split(r"\n##+ ", text.partition("\n### From socket to socket")[2])[0]
+    named = functions_in(part)
+    checks.that(len(named) > 30, f"{PAGE}: the functions from socket to socket were not found")
+    for function, crate in named:
+        checks.that(is_in(function, sources_of([crate])), f"{PAGE} names {function}, which {crate} has not")
+    ways = [way_of(part, column) for column in (1, 2)]
+    for way in ways:
+        wanted = counts_of(way)
+        checks.that(wanted in " ".join(part.split()), f"{PAGE} has to say: {wanted}")
+    most = max(len({crate for _, crate in way}) for way in ways)
+    checks.that(f"passes {most} crates" in " ".join(repository.text_of(OPEN).split()),
+                f"{OPEN} has to say that a put passes {most} crates")
+
+
+def functions_in(text):
+    """Returns the functions that a text names, each with its crate."""
+    return [(function, crate) for names, crate in NAMED.findall(text)
+            for function in re.findall(r"`([\w:]+)`", names)]
+
+
+def way_of(part, column):
+    """Returns the functions of a column of the table, in order. "The same" are those of the first
+    column, in that row, that follow the last one named, or that stand in no other's place."""
+    way = []
+    for line in re.findall(r"^\|(?!---).*$", part, re.M):
+        cells = line.strip("|").split("|")
+        first, named = functions_in(cells[1]), functions_in(cells[column])
+        if "the same" in cells[column]:
+            last = named[-1:]
+            named += first[first.index(last[0]) + 1:] if last and last[0] in first else first[len(named):]
+        way += named
+    return way
+
+
+def counts_of(way):
+    """Returns the words that say how many files and crates these functions stand in."""
+    files = [file_of(*it) for it in way]
+    changes = sum(a != b for a, b in zip(files, files[1:]))
+    return (f"{len(way)} functions, {len(set(files))} files, {len({it for _, it in way})} crates, "
+            f"{changes} changes of file")
+
+
+def file_of(function, crate):
+    """Returns the file of a crate's sources that has a function."""
+    names = sorted(glob.glob(repository.path("crates", crate, "src", "**", "*.rt"), recursive=True))
+    found = [it for it in names if is_in(function, [repository.text_of(it)])]
+    return os.path.relpath(found[0], repository.TOP) if found else None

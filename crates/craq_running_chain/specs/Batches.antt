@@ -13,8 +13,8 @@ use Rattle.craq_store_parts.specs.declared.encoding.Kind.TheVariants as kinds
 use Rattle.craq_store_parts.specs.Encoded.{OnlySends, lone_position}
 use Rattle.craq_running_chain.specs.declared.unsent.Unsent.{Unsent}
 use Rattle.craq_wire.specs.Encoding.{Encodes}
-use Rattle.craq_running_node.specs.declared.node.Waiting.{Waiting}
-use Rattle.craq_running_node.specs.declared.node.Waiting.TheVariants as waits
+use Rattle.craq_running_node.specs.declared.inbox.Delivery.{Delivery}
+use Rattle.craq_running_node.specs.declared.inbox.Delivery.TheVariants as brings
 use Rattle.craq_running_chain.specs.declared.unsent.Unsent.TheVariants as unsent
 use Rattle.craq_running_node.specs.Replies.{PendingReplies, ReactsTo}
 
@@ -23,12 +23,12 @@ abbrev pub Hears : {C : Type 0} → (C → Plain → Type 0) → SeatedNode C �
 Hears represents old new bytes before after =
     ((m : LinkMessage) × Encodes m bytes × ReactsTo represents old new (events.Deliver m) before after) ⊎ ((new ≡ old) × (after ≡ before))
 
--- a node reacts to the item that was brought: to this message, to a tick, or to the last message of its kind
-abbrev pub TakesBrought : {C : Type 0} → (C → Plain → Type 0) → SeatedNode C → SeatedNode C → Waiting C → PendingReplies → PendingReplies → Type 0
-TakesBrought represents old new (waits.Message wire) before after = Hears represents old new wire.bytes before after
-TakesBrought represents old new waits.Ack before after = (bytes : List ℕ) × Hears represents old new bytes before after
-TakesBrought represents old new waits.Blank before after = (bytes : List ℕ) × Hears represents old new bytes before after
-TakesBrought represents old new waits.Tick before after = ReactsTo represents old new events.Tick before after
+-- a node reacts to the item that was brought: to its message, or to a tick
+abbrev pub TakesBrought : {C : Type 0} → (C → Plain → Type 0) → SeatedNode C → SeatedNode C → Delivery C → PendingReplies → PendingReplies → Type 0
+TakesBrought represents old new (brings.Message wire) before after = Hears represents old new wire.bytes before after
+TakesBrought represents old new (brings.Ack wire) before after = Hears represents old new wire.bytes before after
+TakesBrought represents old new (brings.Blank wire) before after = Hears represents old new wire.bytes before after
+TakesBrought represents old new brings.Tick before after = ReactsTo represents old new events.Tick before after
 
 -- if a cell's last step only acknowledges, that acknowledgement is owed
 abbrev pub OwesLast : {C : Type 0} → Celled C Event → Option LinkMessage → Type 0

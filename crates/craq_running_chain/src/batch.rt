@@ -16,7 +16,7 @@ use craq_model::Event;
 use craq_names::{Refusal, Seq};
 use craq_node::Core;
 use craq_running_node::{
-    Arrival, Gate, OwnAsk, OwnReply, QueuedAsk, Replies, RunningNode, SeatedNode, Waiting,
+    Arrival, Delivery, Gate, OwnAsk, OwnReply, QueuedAsk, Replies, RunningNode, SeatedNode,
     entries_of, lone_entry_of, messages_of, owed_by, refuse_asked, refuse_own, take_event,
     take_own, take_queued,
 };
@@ -147,30 +147,19 @@ impl<'a, C: Core + Named, G: Gate> NodeBatch<'a, C, G> {
     }
 
     /// Takes the step on what was brought. Out of memory to decode a message, it is lost and counted.
-    pub(crate) fn take_brought<R: Wait>(&mut self, rt: &R, waiting: Waiting<C>)
-        ensures { TakesBrought C.represents (mutex_guard_value self.old.seated) (mutex_guard_value self.new.seated) waiting self.old.replies self.new.replies }
+    pub(crate) fn take_brought<R: Wait>(&mut self, rt: &R, brought: Delivery<C>)
+        ensures { TakesBrought C.represents (mutex_guard_value self.old.seated) (mutex_guard_value self.new.seated) brought self.old.replies self.new.replies }
     {
-        match waiting {
-            Waiting::Tick => {
-                self.exit.node.tick_taken();
+        match brought {
+            Delivery::Tick => {
                 if self.tick(rt) {
                     self.post_step(rt);
                 }
             }
-            Waiting::Message(wire) => self.hear(rt, wire),
-            Waiting::Ack => {
-                // An acknowledgement that comes from now on waits anew.
-                self.exit.node.ack.open();
-                if let Some(wire) = self.exit.node.ack.take(rt) {
-                    self.hear(rt, wire);
-                }
-            }
-            Waiting::Blank => {
-                if let Some(wire) = self.exit.node.blank.take(rt) {
-                    self.hear(rt, wire);
-                }
-                // This step answers the repetitions that came meanwhile.
-                self.exit.node.blank.open();
+            Delivery::Message(wire) | Delivery::Ack(wire) => self.hear(rt, wire),
+            Delivery::Blank(wire) => {
+                self.hear(rt, wire);
+                self.exit.node.inbox.blank_answered(rt);
             }
         }
     }

@@ -333,7 +333,7 @@ fn empty<R: Wait, C: Core + Named>(rt: &R, alloc: Global, node: &RunningNode<C>)
 /// Refuses the callers whose requests are queued at a node.
 pub fn refuse_queued<R: Wait, C: Core + Named>(rt: &R, node: &RunningNode<C>, refusal: &Refusal) {
     for _ in rt.forever() {
-        let Ok(asked) = node.queues.asks.try_recv(rt) else {
+        let Some(asked) = node.inbox.next_ask(rt) else {
             break;
         };
         let Asked { made, pass: _, at } = asked;

@@ -26,13 +26,15 @@ fn take_waiting<R: Wait, C: Core + Named, G: Gate>(
     batch: &mut NodeBatch<'_, C, G>,
 ) {
     for _ in 0..MESSAGES {
-        let Ok(waiting) = node.queues.links.try_recv(rt) else {
+        let Some(waiting) = node.inbox.next(rt) else {
             break;
         };
-        batch.take_brought(rt, waiting);
+        if let Some(brought) = node.inbox.take(rt, waiting) {
+            batch.take_brought(rt, brought);
+        }
     }
     for _ in 0..ASKS {
-        let Ok(asked) = node.queues.asks.try_recv(rt) else {
+        let Some(asked) = node.inbox.next_ask(rt) else {
             break;
         };
         batch.take_asked(rt, asked);
@@ -45,7 +47,7 @@ fn visit<R: Wait, C: Core + Named, G: Gate>(
     shared: &Shared<C, G>,
     node: &RunningNode<C>,
 ) -> bool {
-    if !node.has_work() {
+    if node.inbox.is_empty() {
         return false;
     }
     let count = node.next_piece();
@@ -115,7 +117,7 @@ fn run_nodes<R: Wait, C: Core + Named, G: Gate>(
             continue;
         }
         chain.wake_up.doze();
-        if nodes.iter().any(|node| node.has_work()) {
+        if nodes.iter().any(|node| !node.inbox.is_empty()) {
             chain.wake_up.rouse();
         } else {
             chain.wake_up.sleep(rt);
@@ -142,7 +144,7 @@ pub(crate) fn run_inline<R: Wait, C: Core + Named, G: Gate>(
         }
     }
     chain.wake_up.doze();
-    if nodes.iter().any(|node| node.has_work()) {
+    if nodes.iter().any(|node| !node.inbox.is_empty()) {
         chain.wake_up.ring();
     }
 }

@@ -51,7 +51,7 @@ fn take_asks<R: Wait, C: Core + Named, G: Gate>(
     node: &RunningNode<C>,
 ) {
     for _ in rt.forever() {
-        let Ok(asked) = node.queues.asks.recv(rt) else {
+        let Some(asked) = node.inbox.wait_for_ask(rt) else {
             break;
         };
         shared.serve_queued(rt, node, asked);
@@ -65,7 +65,7 @@ fn take_links<R: Wait, C: Core + Named, G: Gate>(
 ) {
     let mut count = 0u64;
     for _ in rt.forever() {
-        let Ok(waiting) = node.queues.links.recv(rt) else {
+        let Some(waiting) = node.inbox.wait(rt) else {
             break;
         };
         shared.gate.before(node.name, Work::Deliveries, count);
@@ -85,7 +85,9 @@ fn deliver<R: Wait, C: Core + Named, G: Gate>(
 ) {
     let mut batch = NodeBatch::begin(shared, node, node.lock(rt), Wakes::ChainThread);
     shared.gate.within(node.name, Work::Deliveries, count);
-    batch.take_brought(rt, waiting);
+    if let Some(brought) = node.inbox.take(rt, waiting) {
+        batch.take_brought(rt, brought);
+    }
     batch.end(rt);
 }
 

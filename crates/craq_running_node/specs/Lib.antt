@@ -1,2 +1,3 @@
+pub mod Inboxes
 pub mod Replies
 pub mod Routes

@@ -1,4 +1,4 @@
-//! `Asked`: a request with its caller, before its step; for `steps`, the queues of `node`, and the
+//! `Asked`: a request with its caller, before its step; for `steps`, `inbox`, and the
 //! crates above.
 ghost use Rattle.std.specs.Prelude.{◌≡◌};
 

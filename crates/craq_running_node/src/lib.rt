@@ -1,4 +1,4 @@
-//! A node that runs: its locked seat, its queues, its steps under the lock, and the replies of each
+//! A node that runs: its locked seat, its inbox, its steps under the lock, and the replies of each
 //! step, which are sent once the lock is free; and the hooks round its work (`Gate`). For
 //! `craq_running_chain` and `craq_workers`; starts no threads.
 //! Code that runs in the programs.
@@ -8,9 +8,9 @@ mod asked;
 mod call_refusal;
 mod callers;
 mod gate;
+mod inbox;
 mod losses;
 mod node;
-mod pending;
 mod replies;
 mod steps;
 
@@ -18,9 +18,9 @@ pub use asked::{Asked, Destination, OwnAsk, QueuedAsk, refuse_own};
 pub use call_refusal::CallRefusal;
 pub use callers::{Outcome, OwnReply, PendingCaller};
 pub use gate::{Gate, OpenGate, Work};
+pub use inbox::{Delivery, Entrances, Inbox, Waiting, open_inbox};
 pub use losses::Losses;
-pub use node::{Delivery, Entrances, Queues, Removed, Route, RunningNode, Waiting};
-pub use pending::Pending;
+pub use node::{Removed, Route, RunningNode};
 pub use replies::{Replies, refuse_callers};
 pub use steps::{
     Arrival, SeatedNode, dismiss, entries_of, lone_entry_of, messages_of, messages_of_book,

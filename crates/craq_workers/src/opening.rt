@@ -22,7 +22,7 @@ use craq_names::{ChainId, Copied, NodeId, NodeName, Refusal, Stamp};
 use craq_node::Core;
 use craq_place::{MOST_CHAINS, Plan};
 use craq_running_chain::{Chain, Open, Rest, RoutingTable, WakeUp, Worker, master_of};
-use craq_running_node::{Entrances, Queues, Removed, Route, RunningNode};
+use craq_running_node::{Removed, Route, RunningNode, open_inbox};
 use craq_seat::{BookCell, Cell, Desk};
 use craq_store_history::{Entry, StoreRule};
 use craq_store_parts::{RecordedDesk, StoreHistory, StoreToken, StoreWriter};
@@ -73,17 +73,12 @@ pub(crate) fn route_to<C: Core + Named>(
     ensures node { IfOk result (λ route. option_map (λ n. n.value.name) route.node ≡ Some name.now) }
     ensures entrances { IfOk result (λ route. IsSome route.entrances) }
 {
-    let (to_asks, asks) = crossbeam_channel::unbounded(alloc)?;
-    let (to_links, links) = crossbeam_channel::unbounded(alloc)?;
-    let queues = Queues { asks, links };
-    let node = Arc::new(alloc, RunningNode::new(*name, queues))?;
+    let (entrances, inbox) = open_inbox(alloc)?;
+    let node = Arc::new(alloc, RunningNode::new(*name, inbox))?;
     Ok(Route {
         name: *name,
         node: Some(node),
-        entrances: Some(Entrances {
-            asks: to_asks,
-            links: to_links,
-        }),
+        entrances: Some(entrances),
     })
 }
 

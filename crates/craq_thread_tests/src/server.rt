@@ -52,13 +52,11 @@ pub const MANNERS: [(Manner, &str); 2] = [
     ),
 ];
 
-impl Manner {
-    /// Returns the gate of a store that is served so: it names the threads that take its steps.
-    fn gate(self) -> OpenGate {
-        OpenGate {
-            in_place: true,
-            chain_threads: matches!(self, Manner::Together),
-        }
+/// Returns the gate of a store that is served: one thread runs each chain, as in `craqd`.
+fn served_gate() -> OpenGate {
+    OpenGate {
+        in_place: false,
+        chain_threads: true,
     }
 }
 
@@ -231,7 +229,7 @@ where
     R: Net<Listener = TcpListener, Stream = TcpStream>,
     requires { opened ≡ N.history }
 {
-    let gate = TestGate::Open(manner.gate());
+    let gate = TestGate::Open(served_gate());
     let store: Tested<N> = start_store(rt, rt.alloc(), opened, gate, true)?;
     let served = serve_store(rt, &store, manner);
     store.close(&rt);

@@ -1,6 +1,6 @@
 //! Starts a store, listens, ticks the store and serves it, as a command line asks for; called by
 //! `main`.
-ghost use Rattle.std.specs.Prelude.{◌≡◌, if◌then◌else◌, nat_lt, true, IfOk};
+ghost use Rattle.std.specs.Prelude.{◌≡◌, if◌then◌else◌, false, true, IfOk};
 
 use crate::audits::print_audits;
 use crate::closing::{watch_control, watch_input};
@@ -401,14 +401,13 @@ where
     serve_listeners(rt, store, line, listeners, parts)
 }
 
-/// Returns how the chains' work is done: by a thread for each chain where a few threads serve all
-/// connections.
-const fn gate_of(line: &Line<'_>) -> OpenGate
-    ensures { result ≡ record { in_place = true; chain_threads = nat_lt 0 line.now.threads } }
+/// Returns the hooks of the store: one thread runs each chain.
+const fn gate() -> OpenGate
+    ensures { result ≡ record { in_place = false; chain_threads = true } }
 {
     OpenGate {
-        in_place: true,
-        chain_threads: line.threads > 0,
+        in_place: false,
+        chain_threads: true,
     }
 }
 
@@ -422,7 +421,7 @@ where
     ensures { IfOk result (λ store. store.journals ≡ line.now.journal) }
 {
     let plan = plan_of(&rt, line.plan)?;
-    match Store::start(rt, rt.alloc(), opened, &plan, gate_of(line), line.journal) {
+    match Store::start(rt, rt.alloc(), opened, &plan, gate(), line.journal) {
         Ok(store) => Ok(store),
         Err(_) => Err(Fault::Memory),
     }

@@ -41,16 +41,10 @@ pub trait Gate: Drop {
         false
     }
 
-    /// Returns whether callers take the steps of their requests themselves. If so, no node has a
-    /// worker for requests; if not, every request goes through such a worker. A store asks this
-    /// once, when it starts, unless one thread carries each chain.
-    fn in_place(&self) -> bool {
-        false
-    }
-
     /// Returns whether one thread for each chain takes the steps of all its nodes. Callers then
     /// take the steps of their reads themselves, and, while that thread sleeps, those of few
-    /// updates. A store asks this once, when it starts.
+    /// updates. If not, two threads of each node take all steps: one those of requests, one those
+    /// of messages and ticks. A store asks this once, when it starts.
     fn chain_threads(&self) -> bool {
         false
     }
@@ -59,8 +53,6 @@ pub trait Gate: Drop {
 /// A gate that neither delays work nor loses messages.
 #[derive(Drop)]
 pub struct OpenGate {
-    /// Callers take the steps of their requests themselves.
-    pub in_place: bool,
     /// One thread for each chain takes the steps of all its nodes.
     pub chain_threads: bool,
 }
@@ -74,10 +66,6 @@ impl Gate for OpenGate {
 
     fn carries(&self, _from: NodeName, _to: NodeName) -> bool {
         true
-    }
-
-    fn in_place(&self) -> bool {
-        self.in_place
     }
 
     fn chain_threads(&self) -> bool {

@@ -33,9 +33,6 @@ pub struct Shared<C: Core + Named, G: Gate> {
     pub gate: G,
     /// One thread runs each chain: the gate's reply when the store started.
     pub chain_threads: bool,
-    /// No node has a worker for queued requests. Unless one thread runs the chain, callers take the
-    /// steps of their requests themselves.
-    pub in_place: bool,
     /// By id.
     pub chains: Vec<Chain<C>>,
 }
@@ -199,6 +196,7 @@ impl<C: Core + Named, G: Gate> Shared<C, G> {
     /// Returns the way of a request that fits the store's threads. With a chain thread, the caller
     /// takes the step of a read, and of an update if it may run the whole chain and that thread
     /// sleeps: then it takes that thread's place. It may leave an update in the queue for later.
+    /// Without one, every request goes into the queue of its node.
     fn way_of(&self, chain: &Chain<C>, ask: &Ask, reach: Reach) -> Way
         ensures queue { result ≡ Way.Queue → (self.now.chain_threads ≡ false) ⊎ IsUpdate ask.now }
         ensures for_caller { result ≡ Way.QueueForCaller → IsUpdate ask.now }
@@ -212,8 +210,6 @@ impl<C: Core + Named, G: Gate> Shared<C, G> {
                 Reach::WholeChain if chain.wake_up.take_place() => Way::Inline,
                 Reach::WholeChain | Reach::OneNode => Way::Queue,
             }
-        } else if self.in_place {
-            Way::OwnStep
         } else {
             Way::Queue
         }

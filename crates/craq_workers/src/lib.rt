@@ -1,5 +1,5 @@
-//! A store that runs. Its nodes' steps are taken by threads of the nodes, by one thread for each
-//! chain, or by callers; each chain's master has a thread. Links between nodes are channels.
+//! A store that runs. Its nodes' steps are taken by threads of the nodes, or by one thread for each
+//! chain and by callers; each chain's master has a thread. Links between nodes are channels.
 //! Clients call from any thread. `craq_running_chain` and `craq_running_node` do the work of the
 //! threads; here a store starts, changes and ends.
 //! Code that runs in the programs.
@@ -12,7 +12,6 @@ mod history;
 mod looking;
 mod losses;
 mod opening;
-mod staff;
 mod store;
 
 pub use client::Client;

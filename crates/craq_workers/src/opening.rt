@@ -11,10 +11,9 @@ ghost use Rattle.craq_place.specs.Plan.{IsPlan};
 ghost use Rattle.craq_seat.specs.Books.{book_opening};
 ghost use Rattle.craq_seat.specs.Cells.{opened};
 ghost use Rattle.craq_store_history.specs.Entries.{members_in};
-ghost use Rattle.craq_workers.specs.Posts.{Links, Master, chain_posts, member_posts, node_posts, post_of};
+ghost use Rattle.craq_workers.specs.Posts.{Master, chain_posts, member_posts, node_posts, post_of};
 ghost use Rattle.craq_workers.specs.Stores.{masters_of};
 
-use crate::staff::Staff;
 use craq_ghost_history::{Named, Registrar};
 use craq_locked_chain::ChainBook;
 use craq_model::Config;
@@ -35,7 +34,9 @@ use std::sync::{Arc, Mutex, RwLock, Wait};
 pub(crate) struct Form {
     /// The cells keep journals.
     pub journal: bool,
-    pub staff: Staff,
+    /// One thread for each chain takes all that waits at its nodes. If not, each node has two: one
+    /// takes the requests that are queued for it, one what arrives there.
+    pub chain_threads: bool,
 }
 
 impl Form {
@@ -82,37 +83,24 @@ pub(crate) fn route_to<C: Core + Named>(
     })
 }
 
-/// Adds the worker of a node that takes what arrives there. Fails only when out of memory.
-fn add_links_worker<C: Core + Named>(
-    node: &Arc<RunningNode<C>>,
-    workers: &mut Vec<Worker<C>>,
-) -> Result<(), AllocError>
-    ensures { IfOk result (λ _. map post_of workers.new.items ≡ map post_of workers.old.items ++ Links node.now.value.name ∷ []) }
-{
-    workers.push(Worker::Links(Arc::try_clone(node)?))?;
-    Ok(())
-}
-
-/// Adds a node's own workers behind those that are there. Fails only when out of memory.
+/// Adds a node's own workers, if the nodes of the store have any, behind those that are there.
+/// Fails only when out of memory.
 pub(crate) fn add_workers<C: Core + Named>(
     route: &Route<C>,
-    staff: Staff,
+    form: Form,
     workers: &mut Vec<Worker<C>>,
 ) -> Result<(), AllocError>
-    ensures { IfOk result (λ _. map post_of workers.new.items ≡ map post_of workers.old.items ++ node_posts staff (option_map (λ n. n.value.name) route.now.node)) }
+    ensures { IfOk result (λ _. map post_of workers.new.items ≡ map post_of workers.old.items ++ node_posts form.chain_threads (option_map (λ n. n.value.name) route.now.node)) }
 {
     let Some(node) = &route.node else {
         return Ok(());
     };
-    match staff {
-        Staff::TwoPerNode => {
-            workers.push(Worker::Asks(Arc::try_clone(node)?))?;
-            workers.push(Worker::Links(Arc::try_clone(node)?))?;
-            Ok(())
-        }
-        Staff::OnePerNode => add_links_worker(node, workers),
-        Staff::OnePerChain => Ok(()),
+    if form.chain_threads {
+        return Ok(());
     }
+    workers.push(Worker::Asks(Arc::try_clone(node)?))?;
+    workers.push(Worker::Links(Arc::try_clone(node)?))?;
+    Ok(())
 }
 
 /// Adds the worker of a whole chain behind those that are there, if the store has such workers.
@@ -122,16 +110,13 @@ fn add_chain_thread<C: Core + Named>(
     form: Form,
     workers: &mut Vec<Worker<C>>,
 ) -> Result<(), AllocError>
-    ensures { IfOk result (λ _. map post_of workers.new.items ≡ map post_of workers.old.items ++ member_posts form.staff chain []) }
+    ensures { IfOk result (λ _. map post_of workers.new.items ≡ map post_of workers.old.items ++ member_posts form.chain_threads chain []) }
 {
-    match form.staff {
-        Staff::TwoPerNode => Ok(()),
-        Staff::OnePerNode => Ok(()),
-        Staff::OnePerChain => {
-            workers.push(Worker::ChainThread(chain))?;
-            Ok(())
-        }
+    if !form.chain_threads {
+        return Ok(());
     }
+    workers.push(Worker::ChainThread(chain))?;
+    Ok(())
 }
 
 impl<'a, R: Wait, C: Core + Named> Opener<'a, R, C> {
@@ -207,7 +192,7 @@ impl<'a, R: Wait, C: Core + Named> Opener<'a, R, C> {
         requires opened { members_in chain token ≡ Some config.now.members }
         ensures names { IfOk result (λ routes. map (λ w. w.name) routes.items ≡ map (λ n. record { chain = chain; node = n }) config.now.members) }
         ensures open { IfOk result (λ routes. AllByRecursion (λ w. (option_map (λ n. n.value.name) w.node ≡ Some w.name) × IsSome w.entrances) routes.items) }
-        ensures workers { IfOk result (λ _. map post_of workers.new.items ≡ map post_of workers.old.items ++ member_posts self.now.form.staff chain config.now.members) }
+        ensures workers { IfOk result (λ _. map post_of workers.new.items ≡ map post_of workers.old.items ++ member_posts self.now.form.chain_threads chain config.now.members) }
         ensures err { IfErr result (λ e. e ≡ Refusal.Memory) }
     {
         add_chain_thread(chain, self.form, workers)?;
@@ -217,7 +202,7 @@ impl<'a, R: Wait, C: Core + Named> Opener<'a, R, C> {
             let name = NodeName { chain, node: *node };
             let seen = token.again(self.history);
             let route = self.open_member(&name, config, seen)?;
-            add_workers(&route, self.form.staff, workers)?;
+            add_workers(&route, self.form, workers)?;
             nodes.push(route)?;
         }
         Ok(nodes)
@@ -252,7 +237,7 @@ impl<'a, R: Wait, C: Core + Named> Opener<'a, R, C> {
         requires { IsMembership members.now }
         ensures name { IfOk result (λ c. string_bytes c.name ≡ name.now) }
         ensures master { IfOk result (λ c. opened_master c.id c.first.members ≡ opened_master id members.now) }
-        ensures workers { IfOk result (λ _. map post_of workers.new.items ≡ map post_of workers.old.items ++ (member_posts self.now.form.staff id members.now ++ Master id ∷ [])) }
+        ensures workers { IfOk result (λ _. map post_of workers.new.items ≡ map post_of workers.old.items ++ (member_posts self.now.form.chain_threads id members.now ++ Master id ∷ [])) }
         ensures err { IfErr result (λ e. e ≡ Refusal.Memory) }
     {
         let name = String::from_str(self.alloc, name)?;
@@ -286,7 +271,7 @@ impl<'a, R: Wait, C: Core + Named> Opener<'a, R, C> {
         requires { IsPlan plan.now }
         ensures names { IfOk result (λ chains. map (λ c. string_bytes c.name) chains.items ≡ map (λ c. c.0) plan.now) }
         ensures masters { IfOk result (λ chains. map (λ c. opened_master c.id c.first.members) chains.items ≡ masters_of 0 plan.now) }
-        ensures workers { IfOk result (λ _. map post_of workers.new.items ≡ map post_of workers.old.items ++ chain_posts self.now.form.staff 0 plan.now) }
+        ensures workers { IfOk result (λ _. map post_of workers.new.items ≡ map post_of workers.old.items ++ chain_posts self.now.form.chain_threads 0 plan.now) }
         ensures err { IfErr result (λ e. e ≡ Refusal.Memory) }
     {
         let mut chains = Vec::new(self.alloc);

@@ -19,7 +19,6 @@ ghost use Rattle.craq_workers.specs.Stores.{masters_of};
 
 use crate::client::Client;
 use crate::opening::{Form, Opener, add_workers, route_to};
-use crate::staff::Staff;
 use craq_epochs::{MEMBER_LIMIT, is_among};
 use craq_ghost_history::{Named, Opened};
 use craq_locked_chain::ChainBook;
@@ -54,8 +53,8 @@ pub struct ChainStatus {
     pub config: Config,
 }
 
-/// A store that runs. It has one or two threads for each node, or one for each chain
-/// (`Gate::chain_threads`), and one for each chain's master.
+/// A store that runs. It has one thread for each chain (`Gate::chain_threads`), or two for each
+/// node, and one for each chain's master.
 ///
 /// It has no drop: `close` ends it. A contract sees the names of its chains and their masters as
 /// they were opened, by id, and whether it keeps journals. It does not see what is behind locks and
@@ -438,7 +437,7 @@ impl<C: Core + Named + Send + 'static, G: Gate + Send + Sync + 'static> Store<C,
     {
         let form = Form {
             journal,
-            staff: Staff::of(&gate),
+            chain_threads: gate.chain_threads(),
         };
         let (history, registrar) = opened.named(alloc);
         let registrar = Mutex::new(registrar);
@@ -458,8 +457,7 @@ impl<C: Core + Named + Send + 'static, G: Gate + Send + Sync + 'static> Store<C,
             history,
             registrar,
             gate,
-            chain_threads: form.staff.is_per_chain(),
-            in_place: form.staff != Staff::TwoPerNode,
+            chain_threads: form.chain_threads,
             chains,
         };
         let shared = Arc::new(alloc, shared)?;
@@ -666,14 +664,14 @@ impl<C: Core + Named + Send + 'static, G: Gate + Send + Sync + 'static> Store<C,
         rt: R,
         place: &Chain<C>,
         route: &Route<C>,
-        staff: Staff,
+        form: Form,
         hired: &mut Vec<JoinHandle<()>>,
     ) -> Result<(), Refusal>
         ensures refused { IfErr result (λ e. (e ≡ Refusal.Closed) ⊎ (e ≡ Refusal.Memory)) }
-        ensures hired { OnOk result (length hired.new.items ≡ length hired.old.items + length (node_posts staff (option_map (λ n. n.value.name) route.now.node))) }
+        ensures hired { OnOk result (length hired.new.items ≡ length hired.old.items + length (node_posts form.chain_threads (option_map (λ n. n.value.name) route.now.node))) }
     {
         let mut workers = Vec::new(self.alloc);
-        add_workers(route, staff, &mut workers)?;
+        add_workers(route, form, &mut workers)?;
         for worker in workers {
             hired.reserve(1)?;
             hired.push(hire(rt, &self.shared, worker, place.alive(&rt)?)?)?;
@@ -727,7 +725,7 @@ impl<C: Core + Named + Send + 'static, G: Gate + Send + Sync + 'static> Store<C,
         ensures right { IfOk result (λ r. (r.2.writer.author ≡ Author.Node joining.old.name.chain joining.old.name.node) × (r.2.writer.seen ≡ [])) }
         ensures same { (joining.new.name ≡ joining.old.name) × (joining.new.desk ≡ joining.old.desk) }
     {
-        self.hire_workers(rt, place, &joining.route, self.form.staff, hired)?;
+        self.hire_workers(rt, place, &joining.route, self.form, hired)?;
         place.make_room(&rt)?;
         let mut registrar = self.shared.registrar.lock(&rt);
         registrar.make_room()?;

@@ -16,7 +16,7 @@ loop-id-preserved g c =
           c.loop-id.invariant.0 at c.in_ok-chain-in-Ok.ensures.name c.in_ok-push-in-Ok.ensures.items,
       next_mastered c.loop-id.chains.items c.push.new.self.items c.in_ok-chain-in-Ok.chain (λ chain. opened_master chain.id chain.first.members) c.args.plan.now c.loop-id.id (c.in-Ok.name.now, c.in-Ok.members.now)
           c.loop-id.invariant.1 at (rw c.new-id.ensures at c.in_ok-chain-in-Ok.ensures.master) c.in_ok-push-in-Ok.ensures.items,
-      next_chain c.args.self.now.form.staff (map post_of c.loop-id.workers.items) (map post_of c.open_chain.new.workers.items) (map post_of c.args.workers.now.items ++ chain_posts c.args.self.now.form.staff 0 c.args.plan.now) c.args.plan.now c.loop-id.id (c.in-Ok.name.now, c.in-Ok.members.now)
+      next_chain c.args.self.now.form.chain_threads (map post_of c.loop-id.workers.items) (map post_of c.open_chain.new.workers.items) (map post_of c.args.workers.now.items ++ chain_posts c.args.self.now.form.chain_threads 0 c.args.plan.now) c.args.plan.now c.loop-id.id (c.in-Ok.name.now, c.in-Ok.members.now)
           c.loop-id.invariant.2 at (rw c.new-id.ensures at c.in_ok-chain-in-Ok.ensures.workers),
     )
 
@@ -28,8 +28,8 @@ returns-clause-names g c = elim c.loop-id-test.branch [
 
 pub returns-clause-workers : goal.returns-clause-workers
 returns-clause-workers g c = elim c.loop-id-test.branch [
-  | else-loop-id-test w ↦ all_posted c.args.self.now.form.staff (map post_of c.loop-id.workers.items) (map post_of c.args.workers.now.items ++ chain_posts c.args.self.now.form.staff 0 c.args.plan.now) c.args.plan.now c.loop-id.id c.loop-id.invariant.2 (omega (arith, c.requires.few, w.loop-id-test.false))
-  | then-loop-id-test+in-Err w ↦ all_posted c.args.self.now.form.staff (map post_of c.loop-id.workers.items) (map post_of c.args.workers.now.items ++ chain_posts c.args.self.now.form.staff 0 c.args.plan.now) c.args.plan.now c.loop-id.id c.loop-id.invariant.2 (none_left c.args.plan.now c.loop-id.id w.in-Err.field-0 (rw w.new-id.ensures at w.in-Err.ensures))
+  | else-loop-id-test w ↦ all_posted c.args.self.now.form.chain_threads (map post_of c.loop-id.workers.items) (map post_of c.args.workers.now.items ++ chain_posts c.args.self.now.form.chain_threads 0 c.args.plan.now) c.args.plan.now c.loop-id.id c.loop-id.invariant.2 (omega (arith, c.requires.few, w.loop-id-test.false))
+  | then-loop-id-test+in-Err w ↦ all_posted c.args.self.now.form.chain_threads (map post_of c.loop-id.workers.items) (map post_of c.args.workers.now.items ++ chain_posts c.args.self.now.form.chain_threads 0 c.args.plan.now) c.args.plan.now c.loop-id.id c.loop-id.invariant.2 (none_left c.args.plan.now c.loop-id.id w.in-Err.field-0 (rw w.new-id.ensures at w.in-Err.ensures))
 ]
 
 pub returns-clause-masters : goal.returns-clause-masters

@@ -10,4 +10,4 @@ abbrev pub invariant-loop-id : goal.invariant-loop-id
 invariant-loop-id g l =
     (map (λ c. string_bytes c.name) l.chains.items ++ map (λ (c : Chain). c.0) (drop l.id l.plan) ≡ map (λ (c : Chain). c.0) l.plan)
     × (map (λ c. opened_master c.id c.first.members) l.chains.items ++ masters_of l.id (drop l.id l.plan) ≡ masters_of 0 l.plan)
-    × (map post_of l.workers.items ++ chain_posts l.self.form.staff l.id (drop l.id l.plan) ≡ map post_of l.fn.workers.items ++ chain_posts l.self.form.staff 0 l.plan)
+    × (map post_of l.workers.items ++ chain_posts l.self.form.chain_threads l.id (drop l.id l.plan) ≡ map post_of l.fn.workers.items ++ chain_posts l.self.form.chain_threads 0 l.plan)

@@ -36,7 +36,7 @@ loop-node-preserved g c =
       subst (AllByRecursion (λ w. (option_map (λ n. n.value.name) w.node ≡ Some w.name) × IsSome w.entrances)) (sym grown)
           (each_more (λ w. (option_map (λ n. n.value.name) w.node ≡ Some w.name) × IsSome w.entrances) c.loop-node.nodes.items c.in_ok-route.route c.loop-node.invariant.1
           (c.in_ok-route.ensures.node ∙ ap (λ (n : NodeName). Some n) (sym c.in_ok-route.ensures.name), c.in_ok-route.ensures.entrances)),
-      next_posted c.args.self.now.form.staff c.args.chain xs i c.node-item.result (map post_of c.args.workers.now.items) (map post_of c.loop-node.workers.items) (map post_of c.add_workers.new.workers.items) _
+      next_posted c.args.self.now.form.chain_threads c.args.chain xs i c.node-item.result (map post_of c.args.workers.now.items) (map post_of c.loop-node.workers.items) (map post_of c.add_workers.new.workers.items) _
           within c.node-item.is c.in_ok-route.ensures.node c.loop-node.invariant.2 c.in_ok-add_workers.ensures,
       subst (λ t. members_in c.args.chain t ≡ Some c.args.config.now.members) (sym c.again-seen.ensures.same) c.loop-node.invariant.3,
     )

@@ -12,5 +12,5 @@ invariant-loop-node g l =
     let name : ℕ → NodeName = λ n. record { chain = l.chain; node = n } in
     (map (λ w. w.name) l.nodes.items ≡ map name (take l.node-index l.node-items))
     × AllByRecursion (λ w. (option_map (λ n. n.value.name) w.node ≡ Some w.name) × IsSome w.entrances) l.nodes.items
-    × (map post_of l.workers.items ≡ map post_of l.fn.workers.items ++ member_posts l.self.form.staff l.chain (take l.node-index l.node-items))
+    × (map post_of l.workers.items ≡ map post_of l.fn.workers.items ++ member_posts l.self.form.chain_threads l.chain (take l.node-index l.node-items))
     × (members_in l.chain l.token ≡ Some l.config.members)

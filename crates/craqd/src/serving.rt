@@ -403,10 +403,9 @@ where
 
 /// Returns the hooks of the store: one thread runs each chain.
 const fn gate() -> OpenGate
-    ensures { result ≡ record { in_place = false; chain_threads = true } }
+    ensures { result ≡ record { chain_threads = true } }
 {
     OpenGate {
-        in_place: false,
         chain_threads: true,
     }
 }

@@ -25,8 +25,8 @@ use std::time::{Clock, Duration};
 use std::{io, thread};
 use thiserror::Error;
 
-/// The type of this program's stores: the nodes keep compacted histories, and callers run the steps
-/// themselves. `N` names the store's history, which exists in the proofs alone.
+/// The type of this program's stores: the nodes keep compacted histories, and links lose nothing.
+/// `N` names the store's history, which exists in the proofs alone.
 type Embedded<N> = Store<At<ListCore, N>, OpenGate>;
 
 /// A request: a put with its number and value, or a strong read.
@@ -226,8 +226,7 @@ where
 {
     let plan = Plan::read(rt.alloc(), PLAN_TEXT)?;
     let gate = OpenGate {
-        in_place: true,
-        chain_threads: false,
+        chain_threads: true,
     };
     let store: Embedded<N> = Store::start(rt, rt.alloc(), opened, &plan, gate, true)?;
     let worked = work_ticked(rt, &store);

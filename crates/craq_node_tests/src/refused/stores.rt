@@ -231,10 +231,7 @@ where
     requires { opened ≡ N.history }
 {
     let plan = plan(teller.alloc, row)?;
-    let gate = OpenGate {
-        in_place: false,
-        chain_threads,
-    };
+    let gate = OpenGate { chain_threads };
     teller.begin(Call::Start);
     let started: Result<Store<At<C, N>, OpenGate>, Refusal> = Store::start(
         rt,

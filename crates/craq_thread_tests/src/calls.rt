@@ -1,10 +1,11 @@
-//! Tests calls: two that overlap, steps in place and by the request worker, a client's own write;
-//! called by `cases` and `changes`.
+//! Tests calls: two that overlap, a read whose caller or whose node's worker runs the step, a
+//! client's own write; called by `cases` and `changes`.
 use crate::asker::Asker;
 use crate::asks::chain;
 use crate::behind::audit_behind;
 use crate::case_gate::Signs;
 use crate::fault::{Fact, Fault, expect, expect_refusal};
+use crate::form::Form;
 use crate::gate::Tested;
 use crate::waits::{LIMIT, wait_for};
 use craq_audit::Audit;
@@ -182,14 +183,14 @@ fn find_both<R: Wait, N: Named + Send + 'static>(
     }
 }
 
-/// Expects that a caller has its reply while the request worker is held after its step. A caller
-/// that runs its own step has its reply only once it is released itself.
+/// Expects that a caller has its reply while the request worker is held after its step. With a
+/// chain thread a caller runs the step of its read, and has its reply once it is released itself.
 pub fn taking<R: Wait, N: Named + Send + 'static>(
     rt: &R,
     host: HostRuntime,
     store: &Tested<N>,
     signs: &Signs,
-    in_place: bool,
+    form: Form,
 ) -> Result<(), Fault> {
     let mut asker = Asker::new(rt, host.alloc(), store, 1)?;
     let read = asker.read(rt, 3);
@@ -197,7 +198,7 @@ pub fn taking<R: Wait, N: Named + Send + 'static>(
     signs.open.store(true, Ordering::SeqCst);
     drop(asker);
     read?;
-    expect(passed == in_place, Fact::TakesItsStep)
+    expect(passed == form.is_chain_thread(), Fact::TakesItsStep)
 }
 
 /// Puts with a client, and expects to find the value at another node.

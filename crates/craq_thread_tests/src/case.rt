@@ -9,7 +9,7 @@ pub enum Case {
     Before,
     /// A chain is audited while a work item is held after its node's lock is released.
     After,
-    /// The step of a request is run by the node's request worker, or by its caller in place.
+    /// The step of a read is run by its node's request worker; with a chain thread by its caller.
     Taking,
     /// A store without journals reads its own write at another node.
     ReadBack,
@@ -38,7 +38,7 @@ pub const CASES: [(Case, &str); 8] = [
     ),
     (
         Case::Taking,
-        "who takes the step of an ask is its node's worker, or in place its caller",
+        "who takes the step of a read is its node's worker, or with a chain thread its caller",
     ),
     (
         Case::ReadBack,

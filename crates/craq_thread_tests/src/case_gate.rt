@@ -79,6 +79,15 @@ impl CaseGate {
         }
         self.signs.passed.store(true, Ordering::SeqCst);
     }
+
+    /// Returns the number of polls for which a read is held after its step. With a chain thread its
+    /// caller is held, and would release it only afterwards.
+    fn turns_of_read(&self) -> u64 {
+        match self.form {
+            Form::Workers => LIMIT,
+            Form::ChainThread => FEW_TURNS,
+        }
+    }
 }
 
 impl Gate for CaseGate {
@@ -98,7 +107,7 @@ impl Gate for CaseGate {
         }
         match self.case {
             Case::After if node.node.get() == 1 && count == 0 => self.hold(LIMIT),
-            Case::Taking => self.hold(if self.form.is_own() { FEW_TURNS } else { LIMIT }),
+            Case::Taking => self.hold(self.turns_of_read()),
             Case::Stop => self.signs.reached.store(true, Ordering::SeqCst),
             _ => (),
         }
@@ -120,10 +129,6 @@ impl Gate for CaseGate {
             Case::Changes => self.signs.sent.fetch_add(1, Ordering::SeqCst) % ONE_LOST != 0,
             _ => true,
         }
-    }
-
-    fn in_place(&self) -> bool {
-        self.form.is_in_place()
     }
 
     fn chain_threads(&self) -> bool {

@@ -33,7 +33,7 @@ where
     match case {
         Case::Overlap => overlap(rt, host, store, signs),
         Case::Before | Case::After => free(rt, host, store, signs),
-        Case::Taking => taking(&rt, host, store, signs, form.is_own()),
+        Case::Taking => taking(&rt, host, store, signs, form),
         Case::ReadBack => read_back(&rt, host, store),
         Case::Stop => stop(rt, host, store, signs),
         Case::Members => members(rt, host, store, form),

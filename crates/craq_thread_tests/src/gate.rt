@@ -84,14 +84,6 @@ impl Gate for TestGate {
         }
     }
 
-    fn in_place(&self) -> bool {
-        match self {
-            TestGate::Case(gate) => gate.in_place(),
-            TestGate::Trial(gate) => gate.in_place(),
-            TestGate::Open(gate) => gate.in_place(),
-        }
-    }
-
     fn chain_threads(&self) -> bool {
         match self {
             TestGate::Case(gate) => gate.chain_threads(),

@@ -10,12 +10,10 @@ use std::sync::Wait;
 use std::thread::Threads;
 
 /// Returns the system's report of this process with a store of three nodes: the main thread and
-/// that of a case, two threads for each node, one where callers run the steps of their requests, or
-/// one for the chain, and one for the master.
+/// that of a case, two threads for each node or one for the chain, and one for the master.
 fn with_store(form: Form) -> &'static str {
     match form {
         Form::Workers => "\nThreads:\t9\n",
-        Form::InPlace => "\nThreads:\t6\n",
         Form::ChainThread => "\nThreads:\t4\n",
     }
 }
@@ -24,7 +22,6 @@ fn with_store(form: Form) -> &'static str {
 fn with_two_nodes(form: Form) -> &'static str {
     match form {
         Form::Workers => "\nThreads:\t7\n",
-        Form::InPlace => "\nThreads:\t5\n",
         Form::ChainThread => "\nThreads:\t4\n",
     }
 }

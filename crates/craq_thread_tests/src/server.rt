@@ -55,7 +55,6 @@ pub const MANNERS: [(Manner, &str); 2] = [
 /// Returns the gate of a store that is served: one thread runs each chain, as in `craqd`.
 fn served_gate() -> OpenGate {
     OpenGate {
-        in_place: false,
         chain_threads: true,
     }
 }

@@ -104,10 +104,6 @@ impl Gate for TrialGate {
         }
     }
 
-    fn in_place(&self) -> bool {
-        self.form.is_in_place()
-    }
-
     fn chain_threads(&self) -> bool {
         self.form.is_chain_thread()
     }

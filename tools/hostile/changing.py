@@ -29,9 +29,10 @@ PATIENCE = 10
 # After these refusals the same is asked again: also where a node that joined is not ready.
 NOT_READY = 10
 OPEN = (*example.PASSING, NOT_READY)
-# The forms of a store, by the word of its program, in words: who takes the steps of its nodes.
-FORMS = {"in-place": "two threads a node, in place", "queued": "two threads a node, queued",
-         "carried": "one thread a chain"}
+# The forms of a store, by the word of its program, in words: who takes the steps of its nodes. That
+# of craqd, however it serves, is USUAL.
+FORMS = {"workers": "two threads a node", "chain-thread": "one thread a chain"}
+USUAL = "chain-thread"
 
 
 @functools.cache
@@ -72,11 +73,6 @@ def threads_asked():
     """Returns the number of threads that serve all connections by running.OPTIONS; 0 if each has
     one of its own."""
     return dict(zip(running.OPTIONS, running.OPTIONS[1:])).get("--threads", "0")
-
-
-def usual_form():
-    """Returns the form of the store that craqd would serve by running.OPTIONS."""
-    return "in-place" if threads_asked() == "0" else "carried"
 
 
 class Changing(running.Server):

@@ -41,7 +41,7 @@ def replaced(checks, store, client, turn):
 
 def replaces_all(checks, program):
     """Replaces the members of a store, and returns what was seen, in words."""
-    store = changing.Changing(program, 1, changing.usual_form(), journals=False)
+    store = changing.Changing(program, 1, changing.USUAL, journals=False)
     try:
         client = changing.Insistent(store.address, 1, COPIED)
         empty, threads = store.memory(), store.threads()

@@ -40,7 +40,7 @@ MORE = 600
 LEAKS, GIVES_BACK = {"ASAN_OPTIONS": "detect_leaks=1"}, {"GLIBC_TUNABLES": "glibc.malloc.tcache_count=0"}
 # Of how many stores one after another the least memory after each counts, and how many MiB more the
 # last may have than the first.
-TURN, GROWTH = 3, 24
+TURN, GROWTH = 4, 24
 COUNTED = "answered refused repeated stops joins lost twice late merged".split()
 Store = collections.namedtuple("Store", ["seed", *COUNTED, "kib", "threads"])
 TOLD = re.compile(r"store (\d+): " + ", ".join(rf"(\d+) {it}" for it in COUNTED)

@@ -2,7 +2,7 @@
 
 craq_thread_tests is given how long messages are lost or sent twice (turns of 10 milliseconds), how
 often a store is closed while clients ask, and how many calls are answered while members change, in
-each of its three forms. It prints whether each trial holds, and then what three connections over
+each of its two forms. It prints whether each trial holds, and then what three connections over
 the loopback are answered in each manner of serving, which is no larger here. On standard error it
 says how many calls each time of a trial answered and refused, and the most ticks that one waited.
 """

@@ -1,5 +1,5 @@
 -- A request that is put to a node is served, rejected or queued, by each way into the node.
-use Rattle.std.proofs.Common.{◌≡◌, ◌⊎◌, ℕ, Bool, false, Option, Some, None, Result, Ok, Err, inl, inr, sym, subst}
+use Rattle.std.proofs.Common.{◌≡◌, ◌⊎◌, ℕ, Bool, true, false, Option, Some, None, Result, Ok, Err, inl, inr, sym, subst}
 use Rattle.std.specs.Prelude.{MatchResult}
 use Rattle.craq_commands.specs.declared.read_mode.ReadMode.TheVariants as modes
 use Rattle.craq_names.specs.declared.name.NodeName.{NodeName}
@@ -15,11 +15,11 @@ use Rattle.craq_running_node.specs.Replies.{in_hand}
 use Rattle.craq_running_chain.specs.Asks.{IsPut, IsServed, IsRejected}
 use Rattle.craq_running_chain.specs.Missed.{IsMissed}
 
--- a caller that takes the step of its own request is served or rejected
+-- a caller that takes the step of its own request, where the chain has a thread, is served or rejected
 pub put_at_node : {C : Type 0} (represents : C → Plain → Type 0) (chain_threads : Bool) (name : NodeName) (ask : Ask) (pass : ℕ) (token : Token) (hand : Option (Result Called Refusal))
-    → IsServed represents name ask pass token hand ⊎ IsRejected hand → IsPut represents chain_threads name ask pass token hand
-put_at_node represents chain_threads name ask pass token hand (inl is) = inl is
-put_at_node represents chain_threads name ask pass token hand (inr is) = inr (inl is)
+    → chain_threads ≡ true → IsServed represents name ask pass token hand ⊎ IsRejected hand → IsPut represents chain_threads name ask pass token hand
+put_at_node represents chain_threads name ask pass token hand threads (inl is) = inl (threads, is)
+put_at_node represents chain_threads name ask pass token hand threads (inr is) = inr (inl is)
 
 -- a request is queued, or rejected
 pub put_in_queue : {C : Type 0} (represents : C → Plain → Type 0) (chain_threads : Bool) (name : NodeName) (ask : Ask) (pass : ℕ) (token : Token) (result : Result (Option Called) Refusal)

@@ -1,5 +1,5 @@
 -- The outcome of a request that is put to a node of a running store.
-use Rattle.std.specs.Prelude.{◌≡◌, ◌⊎◌, ℕ, Bool, false, [], Option, Some, None, Result, Ok, Err}
+use Rattle.std.specs.Prelude.{◌≡◌, ◌⊎◌, ℕ, Bool, true, false, [], Option, Some, None, Result, Ok, Err}
 use Rattle.craq_completions.specs.Refused.{IsUpdate}
 use Rattle.craq_completions.specs.declared.token.Token.{Token}
 use Rattle.craq_model.specs.declared.ask.Ask.{Ask}
@@ -32,6 +32,6 @@ abbrev pub IsQueued : Bool → Ask → Option (Result Called Refusal) → Type 0
 IsQueued chain_threads ask None = (chain_threads ≡ false) ⊎ IsUpdate ask
 IsQueued chain_threads ask (Some outcome) = ⊥
 
--- a request was served by a node on the spot, or rejected, or queued
+-- a request was served by a node on the spot, where the chain has a thread of its own; or it was rejected, or queued
 abbrev pub IsPut : {C : Type 0} → (C → Plain → Type 0) → Bool → NodeName → Ask → ℕ → Token → Option (Result Called Refusal) → Type 0
-IsPut represents chain_threads name ask pass token hand = IsServed represents name ask pass token hand ⊎ IsRejected hand ⊎ IsQueued chain_threads ask hand
+IsPut represents chain_threads name ask pass token hand = ((chain_threads ≡ true) × IsServed represents name ask pass token hand) ⊎ IsRejected hand ⊎ IsQueued chain_threads ask hand

@@ -1,6 +1,6 @@
 //! `Shared`: the state that all threads of a store share. Sends messages and serves one request;
 //! called by `batch`, `chain_thread`, `work`, and the store and clients of `craq_workers`.
-ghost use Rattle.std.specs.Prelude.{◌≡◌, ◌⊎◌, ◌<◌, ◌≤◌, IfErr, IfOk, MatchResult, None, OnOk, Some, false, length, slice_get};
+ghost use Rattle.std.specs.Prelude.{◌≡◌, ◌⊎◌, ◌<◌, ◌≤◌, IfErr, IfOk, MatchResult, None, OnOk, Some, false, length, slice_get, true};
 ghost use Rattle.craq_completions.specs.Refused.{CanRefuse, IsUpdate};
 ghost use Rattle.craq_running_chain.specs.Missed.{IsMissed};
 ghost use Rattle.craq_running_chain.specs.Asks.{IsPut, IsServed, IsRejected};
@@ -198,6 +198,8 @@ impl<C: Core + Named, G: Gate> Shared<C, G> {
     /// sleeps: then it takes that thread's place. It may leave an update in the queue for later.
     /// Without one, every request goes into the queue of its node.
     fn way_of(&self, chain: &Chain<C>, ask: &Ask, reach: Reach) -> Way
+        ensures own_step { result ≡ Way.OwnStep → self.now.chain_threads ≡ true }
+        ensures inline_step { result ≡ Way.Inline → self.now.chain_threads ≡ true }
         ensures queue { result ≡ Way.Queue → (self.now.chain_threads ≡ false) ⊎ IsUpdate ask.now }
         ensures for_caller { result ≡ Way.QueueForCaller → IsUpdate ask.now }
     {

@@ -7,11 +7,11 @@ use Rattle.craq_running_chain.proofs.shared.Shared.submit_own.Goals as goal
 
 pub returns-in-OwnStep : goal.returns-in-OwnStep
 returns-in-OwnStep g c =
-    put_at_node g.C.Core.represents c.args.self.now.chain_threads c.args.own.made.name c.args.own.made.ask c.args.own.pass c.args.own.at.token (in_hand c.serve_at.result) c.serve_at.ensures
+    put_at_node g.C.Core.represents c.args.self.now.chain_threads c.args.own.made.name c.args.own.made.ask c.args.own.pass c.args.own.at.token (in_hand c.serve_at.result) (c.way_of.ensures.own_step c.in-OwnStep.is) c.serve_at.ensures
 
 pub returns-in-Inline : goal.returns-in-Inline
 returns-in-Inline g c =
-    put_at_node g.C.Core.represents c.args.self.now.chain_threads c.args.own.made.name c.args.own.made.ask c.args.own.pass c.args.own.at.token (in_hand c.serve_at-reply.result) c.serve_at-reply.ensures
+    put_at_node g.C.Core.represents c.args.self.now.chain_threads c.args.own.made.name c.args.own.made.ask c.args.own.pass c.args.own.at.token (in_hand c.serve_at-reply.result) (c.way_of.ensures.inline_step c.in-Inline.is) c.serve_at-reply.ensures
 
 pub returns-in-Queue : goal.returns-in-Queue
 returns-in-Queue g c =

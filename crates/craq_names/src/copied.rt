@@ -74,7 +74,7 @@ impl<T: Copied> Copied for Items<T> {
 pub fn copies_of<T: Copied>(alloc: Global, items: &[T]) -> Result<Vec<T>, AllocError>
     ensures { IfOk result (λ copies. copies.items ≡ items.now) }
 {
-    let mut copies = Vec::new(alloc);
+    let mut copies = Vec::with_capacity(alloc, items.len())?;
     for item in items {
         copies.push(item.copied(alloc)?)?;
     }

@@ -15,10 +15,11 @@ use crate::stamps::{event_stamp, next_stamp};
 use crate::{Opening, Receipt, Record};
 use craq_epochs::Switch;
 use craq_model::{Config, Event, Step};
-use craq_names::{Copied, NodeName, Pass, Refusal, Stamp};
+use craq_names::{Copied, Items, NodeName, Pass, Refusal, Stamp};
 use craq_node::Core;
 use std::alloc::{AllocError, Global};
 use std::marker::Model;
+use std::mem;
 
 /// A node with a stamp for each of its steps and, if one is kept, a journal of them. Replaying the
 /// journal from the opening gives the node that the core stands for.
@@ -53,23 +54,43 @@ fn copy_of(alloc: Global, config: Option<&Config>) -> Result<Option<Config>, All
     }
 }
 
+/// Returns the step, and gives back the memory in which its messages do not stand.
+fn fitted(step: Step) -> Step
+    ensures { result ≡ step }
+{
+    let Step {
+        ticket,
+        outs,
+        ignored,
+    } = step;
+    let mut outs = outs.into_vec();
+    outs.shrink_to_fit();
+    Step {
+        ticket,
+        outs: Items::of(outs),
+        ignored,
+    }
+}
+
 /// Takes a step of the core after making room for its record in the journal. The journal keeps its
-/// records.
+/// records. The event that stays is a copy, which has no room to spare.
 fn noted_step<C: Core>(
     alloc: Global,
     core: &mut C,
     journal: &mut Vec<Record<Event>>,
-    event: &Event,
+    event: &mut Event,
 ) -> Result<Step, Refusal>
-    requires { CanArrive event.now }
-    ensures step { (p : Plain) → C.represents core.old p → AnswersAfter (C.represents core.new) p event.now result }
+    requires { CanArrive event.old }
+    ensures step { (p : Plain) → C.represents core.old p → AnswersAfter (C.represents core.new) p event.old result }
     ensures spelled { IfOk result (λ step. AreEncodable step.outs) }
+    ensures event { event.new ≡ event.old }
     ensures same { journal.new.items ≡ journal.old.items }
     ensures room { OnOk result (vec_len journal.new < vec_capacity journal.new) }
 {
     journal.reserve(1)?;
     let copy = event.copied(alloc)?;
-    core.step(alloc, copy)
+    let step = core.step(alloc, mem::replace(event, copy))?;
+    Ok(fitted(step))
 }
 
 impl<C: Core> Cell<C> {
@@ -113,7 +134,7 @@ impl<C: Core> Cell<C> {
     /// largest stamp is 2^64 - 1; `Memory` if a journal is kept and has no room for the step; each
     /// refusal of the node's own step (`Core::step`), its `Memory` last. Without a journal, a stop
     /// of a running node and an ignored message never allocate.
-    pub fn take(&mut self, alloc: Global, event: Event, pass: Pass) -> Result<Receipt, Refusal>
+    pub fn take(&mut self, alloc: Global, mut event: Event, pass: Pass) -> Result<Receipt, Refusal>
         requires { CanArrive event }
         ensures step { (p : Plain) → C.represents self.old.inside p → TakesEvent C.represents self.new (with_inside self.old p) event pass result }
         ensures receipt { IfOk result (λ receipt. receipt ≡ receipt_of self.new) }
@@ -132,7 +153,7 @@ impl<C: Core> Cell<C> {
             stamp,
         };
         match &mut self.journal {
-            Some(journal) => match noted_step(alloc, &mut self.core, journal, &event) {
+            Some(journal) => match noted_step(alloc, &mut self.core, journal, &mut event) {
                 Err(refusal) => {
                     drop(event);
                     Err(refusal)

@@ -26,7 +26,7 @@ use Rattle.craq_causality.proofs.Orders.{IsIn, from_contains, in_left, to_contai
 
 -- ---- the lines of one author
 
-lines_same : (id : ℕ) (lines : List MergedStep) (l : MergedStep) → l.node ≡ id → lines_of id (lines ++ l ∷ []) ≡ lines_of id lines ++ l ∷ []
+pub lines_same : (id : ℕ) (lines : List MergedStep) (l : MergedStep) → l.node ≡ id → lines_of id (lines ++ l ∷ []) ≡ lines_of id lines ++ l ∷ []
 lines_same id lines l e = filter-append (λ (x : MergedStep). x.node == id) lines (l ∷ []) ∙ rw (eq-eqb l.node id e) refl
 
 lines_other : (id : ℕ) (lines : List MergedStep) (l : MergedStep) → l.node ≢ id → lines_of id (lines ++ l ∷ []) ≡ lines_of id lines

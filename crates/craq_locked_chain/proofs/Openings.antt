@@ -1,9 +1,9 @@
 -- A chain that was just opened.
-use Rattle.std.proofs.Common.{◌≡◌, ◌<◌, ◌⊎◌, ◌∙◌, ℕ, Bool, List, [], ◌∷◌, Some, refl, sym, ap, subst, inl, inr, arith}
+use Rattle.std.proofs.Common.{◌≡◌, ◌<◌, ◌⊎◌, ◌∙◌, ℕ, List, [], ◌∷◌, Some, refl, sym, ap, subst, inl, inr, arith}
 use Rattle.craq_epochs.specs.Mastered.{Mastered, opened_master}
 use Rattle.craq_seat.specs.declared.journal.BookEvent.{BookEvent}
 use Rattle.craq_seat.specs.declared.journal.Record.{Record}
-use Rattle.craq_seat.specs.Books.{book_opening, book_step, first_master}
+use Rattle.craq_seat.specs.Books.{book_step, first_master}
 use Rattle.craq_seat.specs.Cells.{Celled, opened}
 use Rattle.craq_seat.specs.Journal.{Replays, RisesTo}
 use Rattle.craq_store_history.specs.declared.entry.Entry.{Entry}

@@ -1,6 +1,6 @@
 -- Journals whose lines are in causal order: each message that arrived was sent.
 use Rattle.std.proofs.Common.{◌≡◌, ◌≢◌, ◌<◌, ◌≤◌, ◌⊎◌, ℕ, true, List, [], ◌∷◌, ◌++◌, map, Some, Result, Ok, refl, sym, ap, subst, arith, ◌∙◌, inl, inr, append_assoc}
-use Rattle.std.specs.Prelude.{Contains, flat_map}
+use Rattle.std.specs.Prelude.{flat_map}
 use Rattle.std.specs.List.{AllByRecursion}
 use Rattle.craq_names.specs.declared.refusal.Refusal.{Refusal}
 use Rattle.craq_model.specs.declared.ask.Event.{Event}
@@ -18,9 +18,9 @@ use Rattle.craq_seat.specs.Audits.{AreKept, AreOfChain, HasSender, IsOpenedFirst
 use Rattle.craq_seat.specs.Audits as audits
 use Rattle.craq_seat.specs.Books.{IsBook, book_step, first_master}
 use Rattle.craq_seat.specs.Cells.{Celled}
-use Rattle.craq_seat.specs.Journal.{AreStamped, Replays, Stands}
+use Rattle.craq_seat.specs.Journal.{Replays, Stands}
 use Rattle.craq_seat.specs.Kept.{IsKept}
-use Rattle.craq_seat.specs.Merge.{AtNode, AtMaster, Happening, Journals, MergedStep, all_lines, book_line, node_line}
+use Rattle.craq_seat.specs.Merge.{AtNode, AtMaster, Journals, MergedStep, all_lines, book_line, node_line}
 use Rattle.craq_seat.specs.Stamps.{event_stamp}
 use Rattle.craq_causality.specs.Authors.{lines_of}
 use Rattle.craq_causality.specs.Causal.{AreCausal, AreOrdered, HasJoined, IsOfSent, MayFollow}
@@ -28,7 +28,7 @@ use Rattle.craq_causality.proofs.Masters.{is_reported}
 use Rattle.craq_causality.proofs.Nodes.{same_or_not}
 use Rattle.craq_causality.proofs.Orders.{IsIn, all_by, all_in, from_at, from_contains, in_left, in_map, in_right, of_map, to_at, to_contains}
 use Rattle.craq_merge.specs.Merged.{AreOfLines}
-use Rattle.craq_merge.proofs.Counts.{count, count_cons, count_push, count_same, once}
+use Rattle.craq_merge.proofs.Counts.{count, count_cons, count_push, count_same}
 use Rattle.craq_merge.proofs.Good.{IsStarted, records_above}
 use Rattle.craq_merge.proofs.Journals.{Kept, ids_of, in_flat, kept_lines}
 use Rattle.craq_merge.proofs.Seated.{cell_of, same_ids, started}

@@ -24,7 +24,7 @@ use Rattle.craq_seat.specs.Taken.{TakesTransition}
 use Rattle.craq_seat.proofs.Taking.{above}
 use Rattle.craq_causality.specs.Authors.{first_of, lines_of}
 use Rattle.craq_causality.specs.Causal.{IsOfStopped}
-use Rattle.craq_causality.proofs.Growing.{joined_later}
+use Rattle.craq_causality.proofs.Growing.{joined_later, lines_same}
 use Rattle.craq_causality.proofs.Orders.{IsIn, in_left, in_right, to_contains}
 use Rattle.craq_ghost_history.specs.declared.author.Author.{Author}
 use Rattle.craq_ghost_history.specs.declared.author.Author.TheVariants.{Node}
@@ -38,7 +38,7 @@ use Rattle.craq_store_history.specs.Entries.{author_of, line_in, lines_in, maste
 use Rattle.craq_store_history.specs.Steps.{IsMasterAt, MayOrder}
 use Rattle.craq_store_history.proofs.Adding.{master_may, master_seen, opened_may}
 use Rattle.craq_store_history.proofs.Lines.{lines_more, lines_prefix, members_more, members_prefix, not_opened, own_same}
-use Rattle.craq_store_parts.proofs.Recording.{last_later, lines_same, same_ok, stands_last}
+use Rattle.craq_store_parts.proofs.Recording.{last_later, same_ok, stands_last}
 use Rattle.craq_store_parts.specs.Recorded.{AreLinesOf, AreMasterLines, CanBegin, HasStep, IsRecorded, IsRecordedBook, IsUnmoved, StandsAfter}
 use Rattle.craq_store_parts.specs.Witnessed.{IsWitnessedOrder}
 

@@ -1,11 +1,10 @@
 -- A desk's step as an entry of the history.
-use Rattle.std.proofs.Common.{◌≡◌, ◌<◌, ℕ, ◌==◌, List, [], ◌∷◌, ◌++◌, map, Option, Some, None, Result, Ok, Err, IfOk, IfSome, refl, sym, ap, subst, ◌∙◌, inl, inr, arith, append-nil, eq-eqb}
+use Rattle.std.proofs.Common.{◌≡◌, ◌<◌, ℕ, List, [], ◌∷◌, ◌++◌, map, Option, Some, None, Result, Ok, Err, IfOk, IfSome, refl, sym, ap, subst, ◌∙◌, inl, inr, arith, append-nil, eq-eqb}
 use Rattle.std.specs.Prelude.{Contains, Vec}
 use Rattle.std.proofs.lemmas.Bool.{eqb-true}
 use Rattle.std.specs.List.{AllByRecursion}
 use Rattle.std.specs.Option.{option_map}
 use Rattle.std.proofs.lemmas.List.{map-append}
-use Rattle.std.proofs.lemmas.List.Elements.{filter-append}
 use Rattle.std.specs.declared.alloc.AllocError.{AllocError}
 use Rattle.std.specs.declared.alloc.Global.{Global}
 use Rattle.std.specs.declared.snapshot.Snapshot.{Snapshot}
@@ -32,6 +31,7 @@ use Rattle.craq_seat.specs.Taken.{TakesEvent}
 use Rattle.craq_seat.proofs.Taking.{above}
 use Rattle.craq_causality.specs.Authors.{lines_of}
 use Rattle.craq_causality.specs.Causal.{IsOfType}
+use Rattle.craq_causality.proofs.Growing.{lines_same}
 use Rattle.craq_causality.proofs.Orders.{IsIn, from_contains, in_left, in_right, to_contains}
 use Rattle.craq_ghost_history.specs.declared.author.Author.TheVariants.{Node}
 use Rattle.craq_ghost_history.specs.Histories.{IsAdded, MayAdd, Written}
@@ -184,10 +184,6 @@ has_step : (seen reported new : List Entry) (name : NodeName) (stamp : ℕ) (eve
     → IsAdded author_of seen reported (AtNode name stamp event pass step call) new → step.value ≡ taken → HasStep (lines_in name.chain new) name.node stamp taken
 has_step seen reported new name stamp event pass step call taken a says =
     record { line = node_line name.node (node_record stamp event pass step); there = line_added seen reported new name stamp event pass step call a; node = refl; under = refl; step = says }
-
--- one more line of an author
-pub lines_same : (id : ℕ) (lines : List MergedStep) (l : MergedStep) → l.node ≡ id → lines_of id (lines ++ l ∷ []) ≡ lines_of id lines ++ l ∷ []
-lines_same id lines l e = filter-append (λ (x : MergedStep). x.node == id) lines (l ∷ []) ∙ rw (eq-eqb l.node id e) refl
 
 -- its journal grows by its line
 journal_grows : (seen reported new : List Entry) (name : NodeName) (stamp : ℕ) (event : Snapshot Event) (pass : ℕ) (step : Snapshot Step) (call : Option CallId) (r : Record Event) (now was : Option (List (Record Event)))

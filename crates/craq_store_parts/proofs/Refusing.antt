@@ -1,6 +1,6 @@
 -- A refusal of a node at a moment of the history.
-use Rattle.std.proofs.Common.{◌≡◌, ◌∙◌, ℕ, List, ◌++◌, Option, Some, None, Result, Ok, Err, IfSome, sym, subst, inl, inr}
-use Rattle.std.specs.Prelude.{Contains, IsSome, ◌⊎◌}
+use Rattle.std.proofs.Common.{◌≡◌, ◌∙◌, ℕ, List, Option, Some, None, Result, Ok, Err, sym, subst, inl, inr}
+use Rattle.std.specs.Prelude.{IsSome, ◌⊎◌}
 use mathlib.Core.List.{IsPrefix}
 use Rattle.craq_names.specs.declared.name.NodeName.{NodeName}
 use Rattle.craq_names.specs.declared.refusal.Refusal.{Refusal}
@@ -20,7 +20,6 @@ use Rattle.craq_seat.specs.Stamps.{event_stamp, next_stamp}
 use Rattle.craq_seat.specs.Taken.{TakesEvent}
 use Rattle.craq_causality.specs.Causal.{HasStopped}
 use Rattle.craq_causality.proofs.Growing.{joined_later}
-use Rattle.craq_causality.proofs.Orders.{from_contains, in_left, to_contains}
 use Rattle.craq_ghost_history.specs.declared.author.Author.{Author}
 use Rattle.craq_ghost_history.specs.declared.author.Author.TheVariants.{Node}
 use Rattle.craq_ghost_history.specs.Authors.{of}
@@ -32,7 +31,7 @@ use Rattle.craq_store_history.specs.Chains.{Accepts, WasCalled}
 use Rattle.craq_store_history.specs.Entries.{author_of, lines_in}
 use Rattle.craq_store_history.specs.Steps.{IsNodeAt}
 use Rattle.craq_store_history.proofs.Lines.{lines_prefix, members_prefix, own_same}
-use Rattle.craq_store_parts.specs.Recorded.{AreLinesOf, HasStep, IsRecorded, MayHappen}
+use Rattle.craq_store_parts.specs.Recorded.{AreLinesOf, IsRecorded, MayHappen}
 use Rattle.craq_store_parts.specs.Sent.{Following, MadeCall, made_in}
 use Rattle.craq_store_parts.specs.Witnessed.{HasRefusedCall, RefusesAt, RefusesEvent}
 use Rattle.craq_store_parts.proofs.Recording.{Stays, in_later, last_later, line_later, stays, still_recorded}

@@ -1,5 +1,5 @@
 -- A first member before its first step, as a history has it.
-use Rattle.std.proofs.Common.{◌≡◌, ◌≢◌, ◌≤◌, ◌∙◌, ℕ, Bool, true, false, List, [], Option, Some, None, IfSome, refl, sym, ap, subst, inl, arith}
+use Rattle.std.proofs.Common.{◌≡◌, ◌≢◌, ◌≤◌, ℕ, Bool, true, false, List, [], Option, Some, None, IfSome, refl, sym, ap, subst, inl, arith}
 use Rattle.std.specs.Prelude.{if◌then◌else◌}
 use Rattle.craq_names.specs.declared.name.NodeName.{NodeName}
 use Rattle.craq_model.specs.declared.ask.Event.{Event}
@@ -7,7 +7,6 @@ use Rattle.craq_model.specs.declared.config.Config.{Config}
 use Rattle.craq_model.specs.Members.{is_member}
 use Rattle.craq_model.specs.Plain.{Plain, opening_joined, opening_member}
 use Rattle.craq_node.specs.Represented.{CanOpen}
-use Rattle.craq_seat.specs.declared.journal.Opening.{Opening}
 use Rattle.craq_seat.specs.declared.journal.Record.{Record}
 use Rattle.craq_seat.specs.Cells.{Celled, opened}
 use Rattle.craq_causality.specs.Authors.{first_of}

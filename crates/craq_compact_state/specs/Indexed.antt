@@ -1,5 +1,5 @@
 -- The index of entries' writes.
-use Rattle.std.specs.Prelude.{◌≡◌, ℕ, ◌+◌, ◌-◌, ◌≤◌, if◌then◌else◌, List, [], ◌∷◌, ◌++◌, Some, drop, length, slice_get, take}
+use Rattle.std.specs.Prelude.{◌≡◌, ℕ, ◌+◌, ◌-◌, ◌≤◌, if◌then◌else◌, List, [], ◌∷◌, ◌++◌, Some, drop, length, nat_le, slice_get, take}
 use Rattle.craq_names.specs.Maps.{same_bytes}
 use Rattle.craq_commands.specs.declared.entry.Entry.{Entry}
 use Rattle.craq_commands.specs.declared.entry.Write.{Write}
@@ -23,6 +23,10 @@ written_in position index (w ∷ ws) key = if same_bytes w.key key then version_
 unfoldable pub written_after : ℕ → List Entry → List ℕ → List (ℕ × ValueLocation)
 written_after base [] key = []
 written_after base (e ∷ es) key = written_in (base + 1) 0 e.writes key ++ written_after (base + 1) es key
+
+-- up to this position entries are indexed while memory suffices: none of at most `few`, else all but the last `unindexed`
+abbrev pub most_indexed : ℕ → ℕ → ℕ → List Entry → ℕ
+most_indexed few unindexed base entries = if nat_le (length entries) few then base else base + length entries - unindexed
 
 -- each object's later versions are those that the entries up to a position give it
 pub record AreIndexed (ps : Placed) (entries : Suffixed) (indexed : ℕ) : Type 0 where

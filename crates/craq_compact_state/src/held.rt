@@ -1,6 +1,6 @@
 //! `HeldPast`: the storage behind the compacting history. `craq_compact_history` calls it, and otherwise only
 //! tests do.
-ghost use Rattle.std.specs.Prelude.{◌≡◌, ◌+◌, ◌-◌, ◌%◌, ◌<◌, ◌≤◌, ◌^◌, ◌++◌, T, ℕ, List, [], IfOk, OnOk, OnErr, drop, length, max, nat_le, take, if◌then◌else◌};
+ghost use Rattle.std.specs.Prelude.{◌≡◌, ◌+◌, ◌-◌, ◌%◌, ◌<◌, ◌≤◌, ◌^◌, ◌++◌, T, ℕ, List, [], IfOk, OnOk, OnErr, drop, length, max, take};
 ghost use Rattle.std.specs.List.{AllByRecursion};
 ghost use Rattle.std.specs.Ordering.{nat_cmp};
 ghost use Rattle.std.specs.FinMap.Entries.{is_sorted};
@@ -13,6 +13,7 @@ ghost use Rattle.craq_node_invariant.specs.Sound.{AreInRow};
 ghost use Rattle.craq_compact_state.specs.Bytes.{bytes_of_entries, bytes_of_objects};
 ghost use Rattle.craq_compact_state.specs.Followed.{AreNextVersions};
 ghost use Rattle.craq_compact_state.specs.Held.{length_of};
+ghost use Rattle.craq_compact_state.specs.Indexed.{most_indexed};
 ghost use Rattle.craq_compact_state.specs.Room.{HasRoomForVersions};
 
 use crate::applying::apply;
@@ -44,7 +45,7 @@ impl Model for HeldPast {
     ghost use Rattle.craq_compact_state.specs.Bytes.{bytes_of_entries, Counts};
     ghost use Rattle.craq_compact_state.specs.Followed.{AreNextVersions};
     ghost use Rattle.craq_compact_state.specs.Held.{Held};
-    ghost use Rattle.craq_compact_state.specs.Indexed.{AreIndexed};
+    ghost use Rattle.craq_compact_state.specs.Indexed.{AreIndexed, most_indexed};
     ghost use Rattle.craq_compact_state.specs.Placed.{objects_of, state_at, IsPlaced};
 
     ghost Value = { Held };
@@ -207,7 +208,7 @@ impl HeldPast {
         ensures ok { OnOk result (self.new.entries ≡ self.old.entries ++ entries) }
         ensures err { OnErr result (self.new.entries ≡ self.old.entries) }
         ensures more { self.old.indexed ≤ self.new.indexed }
-        ensures indexed { OnOk result (HasRoomForVersions self.old.rooms (drop (self.old.indexed - self.old.base) self.new.entries) → self.new.indexed ≡ max self.old.indexed (if nat_le (length self.new.entries) FEW_ENTRIES then self.new.base else length_of self.new - MOST_UNINDEXED)) }
+        ensures indexed { OnOk result (HasRoomForVersions self.old.rooms (drop (self.old.indexed - self.old.base) self.new.entries) → self.new.indexed ≡ max self.old.indexed (most_indexed FEW_ENTRIES MOST_UNINDEXED self.new.base self.new.entries)) }
     {
         let more = bytes_of_entries(entries.as_slice());
         self.entries.append_all(entries)?;

@@ -1,5 +1,5 @@
 //! Indexes the entries' writes in the table. `held` and `applying` call this.
-ghost use Rattle.std.specs.Prelude.{◌≡◌, ℕ, ◌+◌, ◌-◌, ◌<◌, ◌≤◌, List, [], ◌∷◌, ◌++◌, IsOk, OnOk, OnErr, if◌then◌else◌, length, nat_le, drop, max, take};
+ghost use Rattle.std.specs.Prelude.{◌≡◌, ℕ, ◌+◌, ◌-◌, ◌<◌, ◌≤◌, List, [], ◌∷◌, ◌++◌, IsOk, OnOk, OnErr, if◌then◌else◌, length, drop, max, take};
 ghost use Rattle.craq_names.specs.Maps.{same_bytes};
 ghost use Rattle.craq_model.specs.Past.{values_in, values_after};
 ghost use Rattle.craq_commands.specs.Objects.{version_of};
@@ -8,7 +8,7 @@ ghost use Rattle.craq_versions.specs.Tables.{room_at};
 ghost use Rattle.craq_versions.specs.Versions.{CanPush};
 ghost use Rattle.craq_compact_state.specs.declared.value_locations.ValueLocation.TheVariants.{Written};
 ghost use Rattle.craq_compact_state.specs.Followed.{AreNext};
-ghost use Rattle.craq_compact_state.specs.Indexed.{written_in, AreIndexed};
+ghost use Rattle.craq_compact_state.specs.Indexed.{most_indexed, written_in, AreIndexed};
 ghost use Rattle.craq_compact_state.specs.Placed.{count_of, has_some, newest_version, objects_of, later_of, versions_of, IsPlaced, KeepsLater, LaterTakenBack};
 ghost use Rattle.craq_compact_state.specs.Room.{HasRoomForVersions, HasRoomForWrites, KeepsRoomBut};
 
@@ -138,7 +138,7 @@ pub fn list_next(
 /// Returns the position up to which entries are to be indexed: none if there are few, else all but
 /// the last few.
 fn most_indexed(entries: &Suffix) -> u64
-    ensures { result ≡ (if nat_le (length entries.now.entries) FEW_ENTRIES then entries.now.base else length_of entries.now - MOST_UNINDEXED) }
+    ensures { result ≡ most_indexed FEW_ENTRIES MOST_UNINDEXED entries.now.base entries.now.entries }
 {
     let base = entries.base();
     if entries.from(base).len() <= FEW_ENTRIES {
@@ -159,8 +159,8 @@ pub fn list_entries(
     requires placed { IsPlaced table.old }
     requires indexed { AreIndexed table.old entries.now indexed.old }
     requires next { (q : List ℕ) → AreNext (version_of (objects_of table.old) q) (values_after entries.now.entries q) }
-    ensures ok { OnOk result (indexed.new ≡ max indexed.old (if nat_le (length entries.now.entries) FEW_ENTRIES then entries.now.base else length_of entries.now - MOST_UNINDEXED)) }
-    ensures err { OnErr result (indexed.new < (if nat_le (length entries.now.entries) FEW_ENTRIES then entries.now.base else length_of entries.now - MOST_UNINDEXED)) }
+    ensures ok { OnOk result (indexed.new ≡ max indexed.old (most_indexed FEW_ENTRIES MOST_UNINDEXED entries.now.base entries.now.entries)) }
+    ensures err { OnErr result (indexed.new < most_indexed FEW_ENTRIES MOST_UNINDEXED entries.now.base entries.now.entries) }
     ensures objects { objects_of table.new ≡ objects_of table.old }
     ensures indexed { AreIndexed table.new entries.now indexed.new }
     ensures more { indexed.old ≤ indexed.new }

@@ -24,10 +24,6 @@ const MOST_TICKS: u64 = 300;
 /// The number of polls for which clients send requests after messages were lost.
 const CALM: u64 = 50;
 
-/// The largest number of polls until a node that joined answers reads. With one chain thread each
-/// delayed message holds up all nodes, so on a busy machine a slow join takes many seconds.
-const JOIN_LIMIT: u64 = 5000;
-
 /// The largest number of nodes that ever join.
 const MOST_JOINS: u32 = 10_000;
 
@@ -162,7 +158,7 @@ impl<N: Named + Send + 'static> Ground<N> {
     {
         self.store.join(rt, chain(), NodeId::new(id))?;
         self.course.tail.store(id, Ordering::SeqCst);
-        let ready = self.tick_until(&rt, &self.course.ready, u64::from(id), JOIN_LIMIT);
+        let ready = self.tick_until(&rt, &self.course.ready, u64::from(id), LIMIT);
         expect(ready, Fact::IsReady)
     }
 

@@ -6,8 +6,9 @@ use std::thread::{JoinHandle, Threads};
 use std::time::Duration;
 use std::{fs, thread};
 
-/// The largest number of polls of a wait.
-pub const LIMIT: u64 = 1000;
+/// The largest number of polls of a wait. A join whose state takes longer to send than a tick takes
+/// many seconds on a busy machine.
+pub const LIMIT: u64 = 5000;
 
 /// The time of a poll, in milliseconds.
 const TURN: u64 = 10;

@@ -11,7 +11,7 @@ use Rattle.craq_model.specs.Plain.{Plain, id_of}
 use Rattle.craq_runs.specs.Chain.{Chain, chain_step, message_at, move_progress, node_at, set_node, sent_in}
 use Rattle.craq_runs.specs.Seen.{node_of, receiver_of}
 use Rattle.craq_chain.specs.Parts.{master_of}
-use Rattle.craq_laws.proofs.Names.{name_kept}
+use Rattle.craq_laws.proofs.Kept.{name_kept}
 use Rattle.craq_laws.proofs.Nodes.{node_here, node_elsewhere, node_id, ids_stay}
 use Rattle.craq_seat.specs.declared.journal.Receipt.{Receipt}
 use Rattle.craq_seat.specs.declared.journal.Record.{Record}

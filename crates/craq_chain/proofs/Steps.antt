@@ -9,7 +9,7 @@ use Rattle.craq_model.specs.declared.step.Step.{Step}
 use Rattle.craq_model.specs.Plain.{Plain, id_of}
 use Rattle.craq_epochs.specs.Mastered.{Mastered}
 use Rattle.craq_node.specs.Represented.{StepAnswers}
-use Rattle.craq_laws.proofs.Names.{name_kept}
+use Rattle.craq_laws.proofs.Kept.{name_kept}
 use Rattle.craq_laws.proofs.Nodes.{ids_stay}
 use Rattle.craq_runs.specs.Chain.{Chain, node_at, set_node, node_progress}
 use Rattle.craq_chain.specs.Parts.{AreParts, Moves, place_from}

@@ -18,7 +18,7 @@ use Rattle.craq_model.specs.Plain.{Plain, clean, id_of, newest_object, object_wi
 use Rattle.craq_model.specs.Settle.{Transition, read_answer, transition_ignoring, transition_with}
 use Rattle.craq_model.specs.Deliveries.{answering_version, body_transition, read_with, reads_without, reported_version_transition, version_transition}
 use Rattle.craq_model.specs.Node.{event_transition, is_for, node_step, outs_fit, within_counts}
-use Rattle.craq_laws.proofs.Names.{name_kept}
+use Rattle.craq_laws.proofs.Kept.{name_kept}
 use Rattle.craq_laws.proofs.Nodes.{node_here, node_id}
 use Rattle.craq_runs.specs.declared.run.Move.{Move}
 use Rattle.craq_runs.specs.declared.run.Move.TheVariants as moves

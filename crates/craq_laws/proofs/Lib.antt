@@ -1,6 +1,6 @@
 pub mod Copies
 pub mod Histories
-pub mod Names
+pub mod Kept
 pub mod Nodes
 pub mod Writes
 pub mod Parts

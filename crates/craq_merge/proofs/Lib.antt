@@ -6,7 +6,6 @@ pub mod Good
 pub mod Causal
 pub mod Seated
 pub mod Seen
-pub mod Tickets
 pub mod Named
 pub mod Calls
 pub mod Positions

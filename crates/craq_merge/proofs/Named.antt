@@ -16,7 +16,7 @@ use Rattle.craq_causality.proofs.Orders.{IsIn, in_either, in_get, of_map, to_at}
 use Rattle.craq_causality.proofs.Walk.{taken_among}
 use Rattle.craq_merge.proofs.Orders.{AreRising, not_itself}
 use Rattle.craq_merge.proofs.Seen.{later_line}
-use Rattle.craq_merge.proofs.Tickets.{IsNextTicket, next_ticket}
+use Rattle.craq_laws.proofs.Kept.{IsNextTicket, next_ticket}
 
 -- ---- tickets in a journal
 

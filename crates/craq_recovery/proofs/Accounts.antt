@@ -44,7 +44,8 @@ use Rattle.craq_recovery.proofs.Gains.{Goes, goes_move}
 use Rattle.craq_recovery.proofs.Arriving.{after_both}
 use Rattle.craq_recovery.proofs.Ids.{NoneIsMaster, none_after, none_is_master, not_master}
 use Rattle.craq_recovery.proofs.Onward.{Onward, onward_move, onward_moves, onward_on, onward_self}
-use Rattle.craq_recovery.proofs.Sound.{Sound, own_chain, sound_after, sound_move, transition_named}
+use Rattle.craq_laws.proofs.Kept.{event_keeps_name}
+use Rattle.craq_recovery.proofs.Sound.{Sound, own_chain, sound_after, sound_move}
 use Rattle.craq_recovery.proofs.Spending.{Turned, delivery_turned, load}
 use Rattle.craq_recovery.proofs.Taking.{bears, for_it, round_travels, runs_on, sent_before, stands_at}
 
@@ -233,7 +234,7 @@ module _ (e i r : ℕ) (small : top e i r ≤ greatest_count) where
       let at : node_at d.nodes (id_of p) ≡ Some p = subst N (sym own) o.1 in
       let of : m.chain ≡ p.name.chain = bears d number m st.sound there ∙ sym (own_chain d.chain m.receiver d.nodes p st.sound.nodes o.1) in
       let does : event_transition p (events.Deliver m) ≡ Ok t = for_it p m of (sym own) in
-      let named : t.0.name ≡ p.name = transition_named p (events.Deliver m) t does in
+      let named : t.0.name ≡ p.name = event_keeps_name p (events.Deliver m) t does in
       let k : Turned e i r small (cost (top e i r) m.body) p t = delivery_turned e i r small p m in
       let w : Within e i r t.0 = transition_within e i r small d st.followed number m p st.within at o.2 there (sym own) named in
       let at_now : node_at d.nodes (id_of t.0) ≡ Some p = subst N (ap (λ (n : NodeName). n.node) (sym named)) at in

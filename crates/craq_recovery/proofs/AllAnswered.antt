@@ -28,7 +28,8 @@ use Rattle.craq_recovery.proofs.Answered.{onward_rounds}
 use Rattle.craq_recovery.proofs.Fates.{StillWaits, delivery_fate}
 use Rattle.craq_recovery.proofs.Heads.{Good, good_moves, good_run}
 use Rattle.craq_recovery.proofs.Onward.{IsTravel, Onward}
-use Rattle.craq_recovery.proofs.Sound.{Sound, own_chain, sound_move, transition_named}
+use Rattle.craq_laws.proofs.Kept.{event_keeps_name}
+use Rattle.craq_recovery.proofs.Sound.{Sound, own_chain, sound_move}
 use Rattle.craq_recovery.proofs.Taking.{bears, for_it, round_travels}
 use Rattle.craq_recovery.proofs.Ticking.{tick_keeps}
 use Rattle.craq_recovery.proofs.Travels.{arrived_here}
@@ -60,7 +61,7 @@ arrival_fate c number id k s (Some m) is (Ok x) does w =
     (delivery_fate k p m (subst W it w.waits)))
     (λ (other : m.receiver ≢ id).
     let of : p.name.chain ≡ c.chain = own_chain c.chain (id_of p) c.nodes p s.nodes ar.at in
-    let named : t.0.name ≡ p.name = transition_named p (events.Deliver m) t (for_it p m (bears c number m s is ∙ sym of) ar.own) in
+    let named : t.0.name ≡ p.name = event_keeps_name p (events.Deliver m) t (for_it p m (bears c number m s is ∙ sym of) ar.own) in
     let far : id ≢ id_of t.0 = λ z. other (ar.own ∙ (sym (ap (λ (n : NodeName). n.node) named) ∙ sym z)) in
     let Q : Progress → Type 0 = λ y. node_at y.0.nodes id ≡ Some w.node in
     inl (record { node = w.node; at = subst Q (sym ar.is) (node_elsewhere c.nodes t.0 id far ∙ w.at); waits = w.waits }))

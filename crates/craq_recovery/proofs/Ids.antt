@@ -11,7 +11,7 @@ use Rattle.craq_runs.specs.Runs.{IsRunOf, after_move, after_moves}
 use Rattle.craq_names.specs.declared.name.NodeName.{NodeName}
 use Rattle.craq_laws.proofs.Nodes.{node_id}
 use Rattle.craq_recovery.proofs.Each.{Each, each_at, each_moved}
-use Rattle.craq_recovery.proofs.Sound.{transition_named}
+use Rattle.craq_laws.proofs.Kept.{event_keeps_name}
 
 abbrev IsNoMaster : Plain → Type 0
 IsNoMaster p = 1 ≤ id_of p
@@ -25,7 +25,7 @@ not_master ps id p at a = let some : 1 ≤ id_of p = each_at IsNoMaster ps id p 
 pub none_after : (c : Chain) (m : Move) → NoneIsMaster c.nodes → NoneIsMaster (after_move c m).nodes
 none_after c m all =
     each_moved IsNoMaster c m all
-    (λ x a h. let same : id_of a.transition.0 ≡ id_of a.was = ap (λ (n : NodeName). n.node) (transition_named a.was a.event a.transition a.does) in omega (arith, h, same))
+    (λ x a h. let same : id_of a.transition.0 ≡ id_of a.was = ap (λ (n : NodeName). n.node) (event_keeps_name a.was a.event a.transition a.does) in omega (arith, h, same))
     (λ name some. omega (arith, some))
 
 none_moves : (ts : List Taken) (c : Chain) → NoneIsMaster c.nodes → NoneIsMaster (after_moves c ts).nodes

@@ -48,7 +48,8 @@ use Rattle.craq_recovery.proofs.Onward.{Onward}
 use Rattle.craq_recovery.proofs.Pieces.{IsBetween, counted, state_rises}
 use Rattle.craq_recovery.proofs.Running.{delivery_transition-runs}
 use Rattle.craq_recovery.proofs.Series.{Has}
-use Rattle.craq_recovery.proofs.Sound.{own_chain, transition_named}
+use Rattle.craq_laws.proofs.Kept.{event_keeps_name}
+use Rattle.craq_recovery.proofs.Sound.{own_chain}
 use Rattle.craq_recovery.proofs.Taking.{bears, for_it}
 use Rattle.craq_recovery.proofs.Travels.{Met, NodeIs, arrived_here, ends, one_by_one, met, stands_by}
 
@@ -296,7 +297,7 @@ transition_mild chain c from to least position m mild = λ d number x r s f on g
     record { node = t.0; at = after; runs = delivery_transition-runs p m ∙ ar.running; holds = record { late = omega (arith, gains.epoch, b.late); holds = omega (arith, gains.held, b.holds); below = below } })
     (λ (other : m.receiver ≢ to).
     let of : p.name.chain ≡ d.chain = own_chain d.chain (id_of p) d.nodes p s.nodes ar.at in
-    let named : t.0.name ≡ p.name = transition_named p (events.Deliver m) t (for_it p m (bears d number m s there ∙ sym of) ar.own) in
+    let named : t.0.name ≡ p.name = event_keeps_name p (events.Deliver m) t (for_it p m (bears d number m s there ∙ sym of) ar.own) in
     let far : to ≢ id_of t.0 = λ z. other (ar.own ∙ (sym (ap (λ (n : NodeName). n.node) named) ∙ sym z)) in
     let Q : Progress → Type 0 = λ y. node_at y.0.nodes to ≡ Some g.node in
     record { node = g.node; at = subst Q (sym ar.is) (node_elsewhere d.nodes t.0 to far ∙ g.at); runs = g.runs; holds = g.holds })

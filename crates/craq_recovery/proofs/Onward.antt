@@ -20,7 +20,8 @@ use Rattle.craq_runs.specs.Chain.{Chain, Progress, arrival_progress, chain_step,
 use Rattle.craq_runs.specs.Runs.{after_move, progressed}
 use Rattle.craq_recovery.specs.Rounds.{after_moves_by}
 use Rattle.craq_recovery.proofs.Running.{delivery_transition-runs}
-use Rattle.craq_recovery.proofs.Sound.{Sound, sound_move, transition_named}
+use Rattle.craq_laws.proofs.Kept.{event_keeps_name}
+use Rattle.craq_recovery.proofs.Sound.{Sound, sound_move}
 use Rattle.craq_recovery.proofs.Lines.{IfTaken, by_test, in_step}
 
 -- the master is unchanged, the messages that were sent stay, and no node begins or ends to run
@@ -71,7 +72,7 @@ event_stays : (p : Plain) (e : Event) → IsQuiet e → IfTaken (Stays p) (event
 event_stays p (events.Ask ask) q = absurd q
 event_stays p (events.Deliver m) q =
     cond_both (is_for p m) (Ok (delivery_transition p m)) (Err refusals.WrongNode) (IfTaken (Stays p))
-    (λ is. (transition_named p (events.Deliver m) (delivery_transition p m) (cond-true (is_for p m) (Ok (delivery_transition p m)) (Err refusals.WrongNode) is), delivery_transition-runs p m))
+    (λ is. (event_keeps_name p (events.Deliver m) (delivery_transition p m) (cond-true (is_for p m) (Ok (delivery_transition p m)) (Err refusals.WrongNode) is), delivery_transition-runs p m))
     (λ e. tt)
 event_stays p events.Tick q = (refl, refl)
 event_stays p events.Stop q = absurd q

@@ -13,7 +13,7 @@ use Rattle.craq_model.specs.Members.{is_member, without}
 use Rattle.craq_model.specs.Node.{event_transition, node_step}
 use Rattle.craq_model.specs.Plain.{Plain, opening_joined}
 use Rattle.craq_model.specs.Settle.{Transition}
-use Rattle.craq_laws.proofs.Names.{Gives, event_transition-name}
+use Rattle.craq_laws.proofs.Kept.{event_keeps_name}
 use Rattle.craq_runs.specs.declared.run.Move.{Move}
 use Rattle.craq_runs.specs.declared.run.Move.TheVariants as moves
 use Rattle.craq_runs.specs.declared.run.Taken.{Taken}
@@ -53,16 +53,13 @@ own_chain chain id ps q h e = each_at (IsOf chain) ps id q h e
 abbrev Bears : ℕ → Transition → Type 0
 Bears chain t = IsOf chain t.0 × Speaks chain t
 
-pub transition_named : (p : Plain) (e : Event) (t : Transition) → event_transition p e ≡ Ok t → t.0.name ≡ p.name
-transition_named p e t is = subst (Gives p.name) is (event_transition-name p e)
-
 step_bears : (p : Plain) (e : Event) → IfTaken (Bears p.name.chain) (node_step p e)
 step_bears p e = in_step (Bears p.name.chain) p e (transition_bears (event_transition p e) refl)
   where
     transition_bears : (r : Result Transition Refusal) → event_transition p e ≡ r → IfTaken (Bears p.name.chain) r
     transition_bears (Ok t) is =
         let S : Result Transition Refusal → Type 0 = λ r. IfTaken (Speaks p.name.chain) r in
-        (ap (λ (n : NodeName). n.chain) (transition_named p e t is), subst S is (event_speaks p.name.chain p e refl))
+        (ap (λ (n : NodeName). n.chain) (event_keeps_name p e t is), subst S is (event_speaks p.name.chain p e refl))
     transition_bears (Err err) is = tt
 
 transition_does : (c : Chain) (r : Result Transition Refusal) → NodesAreOf c.chain c.nodes → IfTaken (Bears c.chain) r → DoesIfAny c (transition_progress c r)

@@ -39,7 +39,8 @@ use Rattle.craq_recovery.proofs.Arriving.{BringAll, Stays, bring_more, bring_pas
 use Rattle.craq_recovery.proofs.Onward.{IsTravel, Onward, onward_move, onward_moves, onward_on}
 use Rattle.craq_recovery.proofs.Series.{Has, One, Series, one_series, series_left, series_right}
 use Rattle.craq_recovery.proofs.Ticking.{tick_keeps}
-use Rattle.craq_recovery.proofs.Sound.{Sound, own_chain, transition_named}
+use Rattle.craq_laws.proofs.Kept.{event_keeps_name}
+use Rattle.craq_recovery.proofs.Sound.{Sound, own_chain}
 use Rattle.craq_recovery.proofs.Taking.{bears, for_it, no_fewer, tick_taken, ticks_travel}
 
 -- ---- a property of a node that runs and goes on running
@@ -77,7 +78,7 @@ arrived_here d number m x s at a id to =
     let p : Plain = a.node in
     let t : Transition = delivery_transition p m in
     let of : p.name.chain ≡ d.chain = own_chain d.chain (id_of p) d.nodes p s.nodes a.at in
-    let named : t.0.name ≡ p.name = transition_named p (events.Deliver m) t (for_it p m (bears d number m s at ∙ sym of) a.own) in
+    let named : t.0.name ≡ p.name = event_keeps_name p (events.Deliver m) t (for_it p m (bears d number m s at ∙ sym of) a.own) in
     let same : id_of t.0 ≡ id_of p = ap (λ (n : NodeName). n.node) named in
     let N : ℕ → Type 0 = λ i. node_at d.nodes i ≡ Some p in
     let R : ℕ → Type 0 = λ i. node_at (set_node d.nodes t.0) i ≡ Some t.0 in

@@ -10,7 +10,7 @@ use Rattle.craq_model.specs.Plain.{Plain}
 use Rattle.craq_names.specs.declared.name.NodeName.{NodeName}
 use Rattle.craq_node.specs.Represented.{opening_of}
 use Rattle.craq_node_invariant.specs.Sound.{AreEncodable}
-use Rattle.craq_laws.proofs.Names.{name_kept}
+use Rattle.craq_laws.proofs.Kept.{name_kept}
 use Rattle.craq_seat.specs.declared.journal.Opening.{Opening}
 use Rattle.craq_seat.specs.declared.journal.Record.{Record}
 use Rattle.craq_seat.specs.Kept.{IsKept}

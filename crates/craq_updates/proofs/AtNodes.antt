@@ -26,7 +26,7 @@ use Rattle.craq_runs.specs.Chain.{Chain, Progress, node_at, set_node, message_at
 use Rattle.craq_refinement.specs.Follows.{seen_of, PartFollows, NodeFollows, Follows, BodyFollows, said}
 use Rattle.craq_refinement.proofs.EachLine.{said_as}
 use Rattle.craq_refinement.proofs.Updates.{transition_same}
-use Rattle.craq_laws.proofs.Names.{Gives, event_transition-name}
+use Rattle.craq_laws.proofs.Kept.{event_keeps_name}
 use Rattle.craq_laws.proofs.Nodes.{node_id, node_here, node_elsewhere}
 use Rattle.craq_updates.proofs.EachMove.{place_of}
 use Rattle.craq_updates.proofs.Transitions.{Delivers, body_delivers, Accepts, ask_accepts}
@@ -36,7 +36,7 @@ pub was_id : {c : Chain} {chosen : Move} {x : Progress} (a : AtNode c chosen x) 
 was_id {c} {chosen} a = node_id c.nodes (place_of c chosen) a.was a.at
 
 pub now_name : {c : Chain} {chosen : Move} {x : Progress} (a : AtNode c chosen x) → a.transition.0.name ≡ a.was.name
-now_name a = let P : Result Transition Refusal → Type 0 = λ r. Gives a.was.name r in let g : Gives a.was.name (Ok a.transition) = subst P a.does (event_transition-name a.was a.event) in g
+now_name a = event_keeps_name a.was a.event a.transition a.does
 
 pub now_id : {c : Chain} {chosen : Move} {x : Progress} (a : AtNode c chosen x) → id_of a.transition.0 ≡ place_of c chosen
 now_id a = ap (λ (n : NodeName). n.node) (now_name a) ∙ was_id a

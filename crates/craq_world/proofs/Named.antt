@@ -29,7 +29,7 @@ use Rattle.craq_runs.specs.declared.run.Taken.{Taken}
 use Rattle.craq_runs.specs.Chain.{Chain, Progress, node_at, message_at, config_progress, next_epoch, with_node, is_running, transition_progress, node_progress, arrival_progress, removal_progress, join_progress, move_progress, counted_progress, numbers_left, sent_in, opening_chain, chain_step}
 use Rattle.craq_runs.specs.Runs.{IsRunOf, progressed, Takes, AreTaken, after_move}
 use Rattle.craq_runs.specs.Typed.{AreOfType, IsAskOfType, IsOfType, IsMoveOfType}
-use Rattle.craq_laws.proofs.Names.{name_kept}
+use Rattle.craq_laws.proofs.Kept.{name_kept}
 use Rattle.craq_refinement.proofs.Updates.{refused}
 use Rattle.craq_updates.proofs.Places.{AtNode, AtMaster, happens_at}
 use Rattle.craq_chain.proofs.Steps.{AreOf, own_name, names_push, set_names}

@@ -1,5 +1,5 @@
 -- Refusals of a call, by the kind of its request.
-use Rattle.std.specs.Prelude.{⊤}
+use Rattle.std.specs.Prelude.{◌≤◌, ⊤}
 use Rattle.craq_names.specs.declared.refusal.Refusal.{Refusal}
 use Rattle.craq_names.specs.declared.refusal.Refusal.TheVariants as refusals
 use Rattle.craq_commands.specs.declared.read_mode.ReadMode.TheVariants as modes
@@ -18,11 +18,11 @@ CanWait (asks.Read modes.Strong object) = ⊤
 CanWait (asks.Read modes.Eventual object) = ⊥
 CanWait (asks.Read (modes.Bounded k) object) = ⊥
 
--- the refusals of a request at a node of a chain: NotHead only for an update, PendingFull only for a request that may wait. Any
--- request may be refused because the chain has no such node, the store is closed, or the server is out of memory
+-- the refusals of a request at a node of a chain: NotHead only for an update, with a head that is a node, and PendingFull only for a
+-- request that may wait. Any request may be refused because the chain has no such node, the store is closed, or the server is out of memory
 abbrev pub CanRefuse : Ask → Refusal → Type 0
 CanRefuse ask refusals.TwoChains = ⊤
-CanRefuse ask (refusals.NotHead head) = IsUpdate ask
+CanRefuse ask (refusals.NotHead head) = IsUpdate ask × (1 ≤ head)
 CanRefuse ask refusals.NotReady = ⊤
 CanRefuse ask refusals.Stopped = ⊤
 CanRefuse ask refusals.PendingFull = CanWait ask

@@ -2,6 +2,7 @@
 //! after it; for clients and request handlers.
 ghost use Rattle.std.specs.Prelude.{◌≡◌, ◌⊎◌, ◌↔◌, max, Err, IfOk, IfErr, IsTrue};
 ghost use Rattle.craq_completions.specs.Calls.{IsCallOf};
+ghost use Rattle.craq_node_invariant.specs.Sound.{IsEncodableAnswer};
 
 use craq_model::{Answer, Ask};
 use craq_names::{Copied, NodeName, Pass, Refusal, Same};
@@ -22,6 +23,7 @@ fn is_of(receipt: &CallReceipt, node: &NodeName, ask: &Ask, pass: Pass) -> bool
 
 /// Copies the answer out of a receipt, if the receipt is of this request at this node, shown with
 /// this pass. The request's stamp is then above the pass, and the answer's stamp is not below it.
+/// The answer has an encoding.
 ///
 /// Refused with `Closed` exactly if the receipt is of another call (`IsCallOf`), and with `Memory`
 /// when out of memory.
@@ -33,6 +35,7 @@ pub fn answer_of_call(
     pass: Pass,
 ) -> Result<Answer, Refusal>
     ensures ok { IfOk result (λ answer. IsCallOf node.now ask.now pass answer receipt.now) }
+    ensures encodable { IfOk result (λ answer. IsEncodableAnswer answer) }
     ensures closed { (result ≡ Err Refusal.Closed) ↔ ¬ (IsCallOf node.now ask.now pass receipt.now.answer receipt.now) }
     ensures err { IfErr result (λ e. (e ≡ Refusal.Closed) ⊎ (e ≡ Refusal.Memory)) }
 {

@@ -36,7 +36,7 @@ fn can_refuse(ask: &Ask, refusal: &Refusal) -> bool
     ensures { IsTrue result ↔ CanRefuse ask.now refusal.now }
 {
     match refusal {
-        Refusal::NotHead(_) => is_update(ask),
+        Refusal::NotHead(head) => is_update(ask) && head.get() != 0,
         Refusal::PendingFull => can_wait(ask),
         Refusal::TwoChains
         | Refusal::NotReady

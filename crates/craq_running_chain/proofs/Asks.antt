@@ -1,5 +1,5 @@
 -- A request that is put to a node is served, rejected or queued, by each way into the node.
-use Rattle.std.proofs.Common.{◌≡◌, ◌⊎◌, ℕ, Bool, true, false, Option, Some, None, Result, Ok, Err, inl, inr, sym, subst}
+use Rattle.std.proofs.Common.{◌≡◌, ◌⊎◌, ℕ, zero, suc, Bool, true, false, Option, Some, None, Result, Ok, Err, inl, inr, sym, subst, arith}
 use Rattle.std.specs.Prelude.{MatchResult}
 use Rattle.craq_commands.specs.declared.read_mode.ReadMode.TheVariants as modes
 use Rattle.craq_names.specs.declared.name.NodeName.{NodeName}
@@ -27,9 +27,10 @@ pub put_in_queue : {C : Type 0} (represents : C → Plain → Type 0) (chain_thr
 put_in_queue represents chain_threads name ask pass token (Ok found) h may = subst (λ (f : Option Called). IsPut represents chain_threads name ask pass token (in_hand (Ok f))) (sym h) (inr (inr may))
 put_in_queue represents chain_threads name ask pass token (Err e) h may = inr (inl h)
 
-updates : (ask : Ask) → IsUpdate ask ⊎ ¬ (IsUpdate ask)
-updates (asks.Update update) = inl tt
-updates (asks.Read mode object) = inr (λ h. h)
+names_head : (ask : Ask) (head : ℕ) → CanRefuse ask (refusals.NotHead head) ⊎ ¬ (CanRefuse ask (refusals.NotHead head))
+names_head (asks.Update update) zero = inr (λ h. omega (arith, h.1))
+names_head (asks.Update update) (suc n) = inl (tt, omega arith)
+names_head (asks.Read mode object) head = inr (λ h. h.0)
 
 waits : (ask : Ask) → CanWait ask ⊎ ¬ (CanWait ask)
 waits (asks.Update update) = inl tt
@@ -46,7 +47,7 @@ can_or_not ask refusals.DuplicateKey = inr (λ h. h)
 can_or_not ask refusals.BadNumber = inr (λ h. h)
 can_or_not ask refusals.UnknownChain = inr (λ h. h)
 can_or_not ask refusals.TwoChains = inl tt
-can_or_not ask (refusals.NotHead head) = updates ask
+can_or_not ask (refusals.NotHead head) = names_head ask head
 can_or_not ask refusals.NotReady = inl tt
 can_or_not ask refusals.Stopped = inl tt
 can_or_not ask refusals.PendingFull = waits ask

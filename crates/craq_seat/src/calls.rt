@@ -1,6 +1,7 @@
 //! Calls that wait at a desk, and their receipts once a step answers them; used by `desk`.
 ghost use Rattle.std.specs.Prelude.{◌≡◌, ◌∷◌, ◌++◌, [], if◌then◌else◌, IfOk, IfSome, OnErr, OnOk, Some};
 ghost use Rattle.std.specs.List.{list_any};
+ghost use Rattle.craq_node_invariant.specs.Sound.{AreEncodable, IsEncodableAnswer, IsEncodableOut};
 ghost use Rattle.craq_seat.specs.Calls.{AnswersItself, Serves, ServesAsked, accepted, all_answered, answered_call, answers_to, ask_of, call_under, called_by, called_in, is_answer, left_by, waiting_after, without_call};
 
 use crate::{Receipt, TicketQueue, Ticketed};
@@ -38,7 +39,7 @@ impl Copied for Call {
     }
 }
 
-/// A call with its reply and the step that gave it. Only a desk makes these.
+/// A call with its reply, which has an encoding, and the step that gave it. Only a desk makes these.
 #[derive(Debug, Drop)]
 pub struct CallReceipt {
     call: Call,
@@ -47,11 +48,14 @@ pub struct CallReceipt {
 }
 
 impl Model for CallReceipt {
+    ghost use Rattle.craq_node_invariant.specs.Sound.{IsEncodableAnswer};
     ghost use Rattle.craq_seat.specs.Calls.{Called};
 
     ghost Value = { Called };
 
     ghost view = { λ c. record { call = c.call; answered = c.answered; answer = c.answer } };
+
+    ghost invariant = { λ c. IsEncodableAnswer c.answer };
 }
 
 impl CallReceipt {
@@ -90,9 +94,10 @@ impl CallReceipt {
         &self.call.ask
     }
 
-    /// Returns the reply.
+    /// Returns the reply, which has an encoding.
     pub fn answer(&self) -> &Answer
-        ensures { result.now ≡ self.now.answer }
+        ensures value { result.now ≡ self.now.answer }
+        ensures encodable { IsEncodableAnswer self.now.answer }
     {
         &self.answer
     }
@@ -133,6 +138,7 @@ fn add_answered(
     answered: &Receipt,
     answer: &Answer,
 ) -> Result<(), AllocError>
+    requires { IsEncodableAnswer answer.now }
     ensures ok { OnOk result (receipts.new.items ≡ receipts.old.items ++ answered_call (Some call) answered.now answer.now) }
     ensures err { OnErr result (receipts.new.items ≡ receipts.old.items) }
 {
@@ -160,6 +166,7 @@ fn add_copied(
     answered: &Receipt,
     answer: &Answer,
 ) -> Result<(), AllocError>
+    requires { IsEncodableAnswer answer.now }
     ensures ok { OnOk result (receipts.new.items ≡ receipts.old.items ++ answered_call (Some call.now) answered.now answer.now) }
     ensures err { OnErr result (receipts.new.items ≡ receipts.old.items) }
 {
@@ -174,6 +181,7 @@ fn called_in(
     outs: &[Out],
     answered: Receipt,
 ) -> Result<Vec<CallReceipt>, AllocError>
+    requires { AreEncodable outs.now }
     ensures { IfOk result (λ receipts. receipts.items ≡ called_in calls.now.items answered outs.now) }
 {
     let mut receipts = Vec::new(alloc);
@@ -234,6 +242,7 @@ fn answer_call(
     answered: &Receipt,
     receipts: &mut Vec<CallReceipt>,
 ) -> Result<(), AllocError>
+    requires { IsEncodableOut out.now }
     ensures receipts { OnOk result (receipts.new.items ≡ receipts.old.items ++ called_by waiting.old.items answered.now out.now) }
     ensures others { waiting.new.items ≡ left_by waiting.old.items out.now later.now }
 {
@@ -254,6 +263,7 @@ fn take_answered(
     outs: &[Out],
     answered: &Receipt,
 ) -> Result<Vec<CallReceipt>, AllocError>
+    requires { AreEncodable outs.now }
     ensures receipts { IfOk result (λ receipts. receipts.items ≡ called_in waiting.old.items answered.now outs.now) }
     ensures others { waiting_after waiting.new.items outs.now ≡ waiting_after waiting.old.items outs.now }
 {
@@ -346,6 +356,7 @@ fn answer_calls(
     pass: Pass,
     step: &Step,
 ) -> Result<Vec<CallReceipt>, AllocError>
+    requires { AreEncodable step.now.outs }
     ensures receipts { IfOk result (λ receipts. receipts.items ≡ called_in (waiting.old.items ++ accepted asked step.now.ticket receipt.now pass) receipt.now step.now.outs) }
     ensures ok { OnOk result (waiting.new.items ≡ waiting.old.items ++ accepted asked step.now.ticket receipt.now pass) }
     ensures err { OnErr result (waiting.new.items ≡ waiting.old.items) }
@@ -386,6 +397,7 @@ fn answer_own(
     receipt: &Receipt,
     pass: Pass,
 ) -> Result<Vec<CallReceipt>, AllocError>
+    requires { IsEncodableAnswer answer.now }
     ensures { IfOk result (λ receipts. receipts.items ≡ all_answered (accepted asked ticket receipt.now pass) receipt.now answer.now) }
 {
     let Some(ask) = asked else {
@@ -419,6 +431,7 @@ fn serve_waiting(
     receipt: &Receipt,
     outs: &[Out],
 ) -> Result<Vec<CallReceipt>, AllocError>
+    requires { AreEncodable outs.now }
     ensures { Serves waiting.old.items waiting.new.items [] receipt.now outs.now result }
 {
     let receipts = take_answered(alloc, waiting, outs, receipt);
@@ -436,6 +449,7 @@ fn serve_accepted(
     pass: Pass,
     step: &Step,
 ) -> Result<Vec<CallReceipt>, AllocError>
+    requires { AreEncodable step.now.outs }
     ensures { ServesAsked waiting.old.items waiting.new.items asked step.now.ticket receipt.now pass step.now.outs result }
 {
     match asked {
@@ -465,6 +479,7 @@ pub(crate) fn serve_calls(
     pass: Pass,
     step: &Step,
 ) -> Result<Vec<CallReceipt>, AllocError>
+    requires { AreEncodable step.now.outs }
     ensures { ServesAsked waiting.old.items waiting.new.items asked step.now.ticket receipt.now pass step.now.outs result }
 {
     match asked {

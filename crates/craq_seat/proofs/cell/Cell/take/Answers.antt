@@ -29,20 +29,20 @@ pub invariant_of-self-in-Ok-noted_step : goal.invariant_of-self-in-Ok-noted_step
 invariant_of-self-in-Ok-noted_step g c =
     let stamps : next_stamp c.self.inside.stamp c.args.pass (event_stamp c.args.event) ≡ Ok c.in-Ok.stamp = rw (← c.event_stamp.ensures) (sym c.in-Ok.ensures) in
     let kept = rw c.in-Some.is at c.self.invariant in
-    rw (c.push_reserved.ensures.items, c.noted_step.ensures.same)
+    rw (c.push_reserved.ensures.items, c.noted_step.ensures.same, c.noted_step.ensures.event)
     (keeps_noted g.C.Core.represents c.self.inside.opening c.self.inside.core c.noted_step.new.core c.self.inside.stamp c.in-Some.journal.items _ (record { stamp = c.in-Ok.stamp; event = c.args.event; pass = c.args.pass; step = c.in-Ok-noted_step.step }) kept stamps c.in-Ok-noted_step.ensures.step c.in-Ok-noted_step.ensures.spelled)
 
 pub returns-in-Ok-noted_step-clause-kept : goal.returns-in-Ok-noted_step-clause-kept
 returns-in-Ok-noted_step-clause-kept g c =
     let stamps : next_stamp c.self.inside.stamp c.args.pass (event_stamp c.args.event) ≡ Ok c.in-Ok.stamp = rw (← c.event_stamp.ensures) (sym c.in-Ok.ensures) in
     let kept = rw c.in-Some.is at c.self.invariant in
-    rw (c.push_reserved.ensures.items, c.noted_step.ensures.same)
+    rw (c.push_reserved.ensures.items, c.noted_step.ensures.same, c.noted_step.ensures.event)
     (keeps_noted g.C.Core.represents c.self.inside.opening c.self.inside.core c.noted_step.new.core c.self.inside.stamp c.in-Some.journal.items _ (record { stamp = c.in-Ok.stamp; event = c.args.event; pass = c.args.pass; step = c.in-Ok-noted_step.step }) kept stamps c.in-Ok-noted_step.ensures.step c.in-Ok-noted_step.ensures.spelled)
 
 pub returns-in-Ok-noted_step-clause-step : goal.returns-in-Ok-noted_step-clause-step
 returns-in-Ok-noted_step-clause-step g c =
     let stamps : next_stamp c.self.inside.stamp c.args.pass (event_stamp c.args.event) ≡ Ok c.in-Ok.stamp = rw (← c.event_stamp.ensures) (sym c.in-Ok.ensures) in
-    rw (← c.self.view_is, c.in-Some.is, c.push_reserved.ensures.items, c.noted_step.ensures.same)
+    rw (← c.self.view_is, c.in-Some.is, c.push_reserved.ensures.items, c.noted_step.ensures.same, c.noted_step.ensures.event)
     (λ p r. let a = c.in-Ok-noted_step.ensures.step p r in (a.0, takes_noted node_step c.self.inside.opening p a.0 c.self.inside.stamp c.in-Some.journal.items _ _ c.args.event (event_stamp c.args.event) c.args.pass c.in-Ok.stamp c.in-Ok-noted_step.step ⊤ stamps refl a.1, a.2))
 
 pub invariant_of-self-in-Ok-step : goal.invariant_of-self-in-Ok-step

@@ -13,8 +13,8 @@ use std::sync::{Arc, Wait};
 /// round, so that entries do not wait behind the queries of many reads of one object.
 const MESSAGES: u32 = 32;
 
-/// The most requests of one batch of a node.
-const ASKS: u32 = 8;
+/// The most requests of one batch of a node: as many as one message has entries.
+const ASKS: u32 = 16;
 
 /// The most rounds that a caller takes in the chain thread's place.
 const ROUNDS: u32 = 8;

@@ -16,7 +16,7 @@ pub enum Work {
 ///
 /// Each worker counts its pieces from 0, without gaps. Callers that take their steps themselves
 /// count among their node's requests, in no fixed order. A piece of a chain thread is a batch of a
-/// node: at most 32 messages and 8 requests that wait there, counted among its requests.
+/// node: at most 32 messages and 16 requests that wait there, counted among its requests.
 pub trait Gate: Drop {
     /// Called before a piece of work, with no lock held.
     fn before(&self, node: NodeName, work: Work, count: u64);

@@ -164,7 +164,7 @@ impl<S: Socket, T> Connection<S, T> {
     ghost use Rattle.craq_event_loop.specs.Advancing.{AsksBackend, HasRound, next_call, under_key};
     ghost use Rattle.craq_event_loop.specs.Belonging.{GetsOutcome, SendsBytes, SendsNow, ReceivesBytes, ReceivesNow, KeepsSlot, Reads, TakesCompletion, Writes};
     ghost use Rattle.craq_event_loop.specs.Busy.{GoesOn, IsBehind, IsDone, IsIdle, is_waiting};
-    ghost use Rattle.craq_session.specs.Asking.{called_by};
+    ghost use Rattle.craq_session.specs.Asking.{IsReportable, called_by};
     ghost use Rattle.craq_event_loop.specs.Readiness.{noticed};
     ghost use Rattle.craq_event_loop.specs.Sockets.{EndsAsSocket, EndsInOrder, HasSaidAll, ReadsOn, WritesOn};
 
@@ -371,6 +371,7 @@ impl<S: Socket, T> Connection<S, T> {
 
     /// Takes the outcome of the call that is under way.
     fn answer<H: LoopBackend>(&mut self, alloc: Global, backend: &H, outcome: Outcome)
+        requires { IsReportable outcome }
         ensures reported { GetsOutcome outcome self.old.state self.new.state }
         ensures session { self.new.state.session ≡ self.old.state.session }
         ensures stream { self.new.stream ≡ self.old.stream }

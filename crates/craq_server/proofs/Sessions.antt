@@ -1,5 +1,5 @@
 -- The session of a connection after a call was submitted or finished.
-use Rattle.std.proofs.Common.{◌≡◌, ◌⊎◌, ◌∙◌, [], Option, None, Some, Result, Ok, Err, IfErr, IfOk, IsSome, inl, inr, refl, subst, sym}
+use Rattle.std.proofs.Common.{◌≡◌, ◌⊎◌, ◌∙◌, ℕ, zero, suc, [], Option, None, Some, Result, Ok, Err, IfErr, IfOk, IsSome, inl, inr, refl, subst, sym, arith}
 use Rattle.std.proofs.lemmas.List.{append-nil}
 use Rattle.craq_commands.specs.declared.read_mode.ReadMode.TheVariants as modes
 use Rattle.craq_names.specs.declared.name.NodeName.{NodeName}
@@ -9,6 +9,9 @@ use Rattle.craq_names.specs.declared.refusal.Refusal.TheVariants.{Closed}
 use Rattle.craq_model.specs.declared.ask.Ask.{Ask}
 use Rattle.craq_model.specs.declared.ask.Ask.TheVariants as asks
 use Rattle.craq_completions.specs.Refused.{CanRefuse}
+use Rattle.craq_frames.specs.Payload.{NamesNode}
+use Rattle.craq_session.proofs.Reportable.{can_encode}
+use Rattle.craq_server.specs.Refusing.{RefusesServed}
 use Rattle.craq_seat.specs.Calls.{Called}
 use Rattle.craq_store_history.specs.declared.entry.CallId.{CallId}
 use Rattle.craq_store_history.specs.Chains.{IsHistory}
@@ -45,8 +48,9 @@ gives_none_up old new came none client seen = record {
 -- the refusal that a request can have, of one that it may not have
 possible : (ask : Ask) (e reported : Refusal) → (CanRefuse ask e → reported ≡ e) → (¬ (CanRefuse ask e) → reported ≡ Closed) → (reported ≡ e) ⊎ (reported ≡ Closed)
 possible ask refusals.TwoChains reported same closed = inl (same tt)
-possible (asks.Update update) (refusals.NotHead head) reported same closed = inl (same tt)
-possible (asks.Read mode object) (refusals.NotHead head) reported same closed = inr (closed (λ no. no))
+possible (asks.Update update) (refusals.NotHead zero) reported same closed = inr (closed (λ no. omega (arith, no.1)))
+possible (asks.Update update) (refusals.NotHead (suc n)) reported same closed = inl (same (tt, omega arith))
+possible (asks.Read mode object) (refusals.NotHead head) reported same closed = inr (closed (λ no. no.0))
 possible ask refusals.NotReady reported same closed = inl (same tt)
 possible ask refusals.Stopped reported same closed = inl (same tt)
 possible (asks.Update update) refusals.PendingFull reported same closed = inl (same tt)
@@ -96,3 +100,14 @@ finishes_possibly old new node ask (Ok c) e reported f same closed =
     let can : CanRefuse ask e = subst (λ (x : Refusal). CanRefuse ask x) (sym f.0) tt in
     (same can ∙ f.0, f.1)
 finishes_possibly old new node ask (Err came) e reported f same closed = gives_up_possibly old new ask came e f reported same closed
+
+-- each refusal of a call that was not made has an encoding
+refusal_encodable : (chains : ℕ) (node : NodeName) (ask : Ask) (e : Refusal) → RefusesServed chains node ask e → NamesNode e
+refusal_encodable chains node ask e (inl exhausted) = subst (λ (x : Refusal). NamesNode x) (sym exhausted) tt
+refusal_encodable chains node ask e (inr (inl memory)) = subst (λ (x : Refusal). NamesNode x) (sym memory) tt
+refusal_encodable chains node ask e (inr (inr (inl unknown))) = subst (λ (x : Refusal). NamesNode x) (sym unknown.0) tt
+refusal_encodable chains node ask e (inr (inr (inr known))) = can_encode ask e known.1
+
+pub served_encodable : {T : Type 0} (chains : ℕ) (node : NodeName) (ask : Ask) (r : Result T Refusal) → IfErr r (λ e. RefusesServed chains node ask e) → IfErr r (λ e. NamesNode e)
+served_encodable chains node ask (Ok x) h = tt
+served_encodable chains node ask (Err e) h = refusal_encodable chains node ask e h

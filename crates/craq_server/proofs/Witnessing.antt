@@ -14,7 +14,7 @@ use Rattle.craq_seat.specs.Calls.{Called}
 use Rattle.craq_session.specs.declared.call_request.CallRequest.{CallRequest}
 use Rattle.craq_session.specs.Asking.{HasCalled, IsSubmitted, directly, by_completion}
 use Rattle.craq_session.specs.Halves.{CanComeBack, EndsTurn, HasAsked, RefusesCall, asked_by, call, nothing, tells_none}
-use Rattle.craq_session.specs.Turns.{Refusing, IsAnswered, IsCalled, IsRefused, MayReplyRefused, message_of, name_of}
+use Rattle.craq_session.specs.Turns.{Refusing, IsAnswered, IsCalled, MayReplyRefused, message_of, name_of}
 use Rattle.craq_store_history.specs.declared.entry.CallId.{CallId}
 use Rattle.craq_store_history.specs.declared.entry.Entry.{Entry}
 use Rattle.craq_store_parts.specs.Recorded.{HasAccepted}
@@ -100,11 +100,11 @@ module _ (q : CallRequest) (old new : Connected) where
   -- a call that is refused
   refused_so : (e : Refusal) → LeavesOpen e ⊎ IsRefusedCall old.client old.seen q.node q.ask e new.seen → IsRefusedRequest old q.node q.ask e new
   refused_so e (inl leaves) = inl leaves
-  refused_so e (inr up) = inr (inr (inr up))
+  refused_so e (inr up) = inr (inr up)
 
   submitted_refused : (e : Refusal) → IsSubmitted Submits FinishesCall q old (Some (Err e)) new → IsRefusedRequest old q.node q.ask e new
   submitted_refused e (Ok reply, mid, made, finished) = refused_so e (made_refused q old mid new reply e made.0 finished)
-  submitted_refused e (Err came, mid, unmade, finished) = inr (inr (inl (ap (λ (s : Connected). s.seen) finished.1 ∙ unmade.1)))
+  submitted_refused e (Err came, mid, unmade, finished) = inr (inl (ap (λ (s : Connected). s.seen) finished.1 ∙ unmade.1))
 
   called_refused : (e : Refusal) → HasCalled Submits FinishesCall q old (Err e) new → IsRefusedRequest old q.node q.ask e new
   called_refused e (directly submitted) = submitted_refused e submitted
@@ -125,7 +125,7 @@ module _ (q : CallRequest) (old new : Connected) where
   message_refused node pass (asks.Update update) e h = h
   message_refused node pass (asks.Read mode object) e h = h
 
-  may_refuse : (r : Refusal → Type 0) (node pass : ℕ) (ask : Ask) (e : Refusal) → MayReplyRefused (λ node pass ask e. r e) (message_of node pass ask) e → r e
+  may_refuse : (r : Refusal → Type 0) (node pass : ℕ) (ask : Ask) (e : Refusal) → MayReplyRefused tells_none (λ node pass ask e. r e) (message_of node pass ask) e → r e
   may_refuse r node pass (asks.Update update) e may = may
   may_refuse r node pass (asks.Read mode object) e may = may
 
@@ -145,16 +145,15 @@ module _ (q : CallRequest) (old new : Connected) where
     as_message : (e : Refusal) → IsRefusedRequest old q.node q.ask e new → IsRefusedMessage old (asked_by q) e new
     as_message e h = message_refused q.node.node q.pass q.ask e (subst (λ (x : NodeName). IsRefusedRequest old x q.ask e new) named h)
 
-    refusal_witnessed : (e : Refusal) → IsRefused tells_none (λ node pass ask e. RefusesCall q outcome e) receipts (asked_by q) e after → IsRefusedMessage old (asked_by q) e new
-    refusal_witnessed e (inl may) = as_message e (outcome_refused outcome e has (may_refuse (λ (e : Refusal). RefusesCall q outcome e) q.node.node q.pass q.ask e may.0))
-    refusal_witnessed e (inr hidden) = as_message e (inr (inl hidden.0))
+    refusal_witnessed : (e : Refusal) → MayReplyRefused tells_none (λ node pass ask e. RefusesCall q outcome e) (asked_by q) e → IsRefusedMessage old (asked_by q) e new
+    refusal_witnessed e may = as_message e (outcome_refused outcome e has (may_refuse (λ (e : Refusal). RefusesCall q outcome e) q.node.node q.pass q.ask e may))
 
     -- the reply to a call whose turn ends so
     pub ended_witnessed : (reply : ClientReply) → EndsTurn q outcome receipts reply after → IsWitnessedTurn old (asked_by q) reply new
     ended_witnessed (replies.Update pass reply) ends = (called_sees outcome has, own_witnessed (replies.Update pass reply) ends.answered ends.own)
     ended_witnessed (replies.Read pass version value) ends = (called_sees outcome has, own_witnessed (replies.Read pass version value) ends.answered ends.own)
     ended_witnessed (replies.Status text) ends = called_sees outcome has
-    ended_witnessed (replies.Refused refusal) ends = (called_sees outcome has, refusal_witnessed refusal ends.answered)
+    ended_witnessed (replies.Refused refusal) ends = (called_sees outcome has, refusal_witnessed refusal ends.answered.0)
 
 no_receipt : (receipts after : List Called) (c : Called) → after ≡ receipts → after ≡ receipts ++ c ∷ [] → ⊥
 no_receipt receipts after c same more = (let empty : [] ≡ c ∷ [] = append_cancel_left receipts [] (c ∷ []) (append-nil receipts ∙ (sym same ∙ more)) in cc)
@@ -164,8 +163,8 @@ module _ (tells : List ℕ → Type 0) (refuses : Refusing) (message : ClientMes
   same_sees same = subst (λ (x : Connected). SeesMore old x) (sym same) (refl, ([], append-nil old.seen))
 
   nothing_refused : (m : ClientMessage) (e : Refusal) → new ≡ old → IsRefusedMessage old m e new
-  nothing_refused (messages.Update node pass update) e same = inr (inr (inl (ap (λ (s : Connected). s.seen) same)))
-  nothing_refused (messages.Read node pass mode object) e same = inr (inr (inl (ap (λ (s : Connected). s.seen) same)))
+  nothing_refused (messages.Update node pass update) e same = inr (inl (ap (λ (s : Connected). s.seen) same))
+  nothing_refused (messages.Read node pass mode object) e same = inr (inl (ap (λ (s : Connected). s.seen) same))
   nothing_refused messages.Status e same = tt
 
   pub nothing_witnessed : (reply : ClientReply) → after ≡ receipts → new ≡ old → IsAnswered tells refuses receipts message reply after → IsWitnessedTurn old message reply new

@@ -3,7 +3,7 @@ use Rattle.std.specs.Prelude.{◌≡◌, ◌≢◌, ◌⊎◌, ⊤, ℕ, List, [
 use mathlib.Core.List.{IsPrefix}
 use Rattle.craq_names.specs.declared.name.NodeName.{NodeName}
 use Rattle.craq_names.specs.declared.refusal.Refusal.{Refusal}
-use Rattle.craq_names.specs.declared.refusal.Refusal.TheVariants.{BadFrame, Closed}
+use Rattle.craq_names.specs.declared.refusal.Refusal.TheVariants.{Closed}
 use Rattle.craq_model.specs.declared.ask.Ask.{Ask}
 use Rattle.craq_model.specs.declared.ask.Ask.TheVariants as asks
 use Rattle.craq_frames.specs.declared.ask.ClientMessage.{ClientMessage}
@@ -92,7 +92,7 @@ pub record IsWitnessedReply (old : Connected) (message : ClientMessage) (reply :
 -- that the session has seen since or in any that goes on from it, and its node refused it by its rules or was not asked
 abbrev pub IsRefusedRequest : Connected → NodeName → Ask → Refusal → Connected → Type 0
 IsRefusedRequest old node ask e new =
-    LeavesOpen e ⊎ (e ≡ BadFrame) ⊎ (new.seen ≡ old.seen) ⊎ IsRefusedCall old.client old.seen node ask e new.seen
+    LeavesOpen e ⊎ (new.seen ≡ old.seen) ⊎ IsRefusedCall old.client old.seen node ask e new.seen
 
 -- so is a message that is an update or a read
 abbrev pub IsRefusedMessage : Connected → ClientMessage → Refusal → Connected → Type 0

@@ -99,7 +99,6 @@ where
     /// Finishes a call in the session that made it, and notes the pass that its client has from
     /// then on. Returns the receipt of the answer, or a refusal that the request can have: `Closed`
     /// if the reply is of another call.
-    #[tactic(auto, using(crate::proofs::Sessions::finishes_possibly))]
     fn finish_call(
         &self,
         session: &mut StoreSession<C>,
@@ -170,6 +169,7 @@ where
 
     ghost finishes = { λ served. FinishesCall };
 
+    #[tactic(auto, using(crate::proofs::Sessions::served_encodable))]
     fn submit(
         &self,
         session: &mut StoreSession<C>,

@@ -1,8 +1,7 @@
 -- The two halves of a turn: the call that a message asks for, and the reply to its outcome.
-use Rattle.std.proofs.Common.{◌≡◌, ◌↔◌, ◌∙◌, ℕ, List, Result, Ok, Err, IfOk, IfErr, OnErr, inl, inr, refl, sym, ap, subst}
-use Rattle.std.proofs.lemmas.Result.{IfOk-weaker, IfErr-weaker}
+use Rattle.std.proofs.Common.{◌≡◌, ◌↔◌, ◌∙◌, ℕ, List, Result, Ok, Err, IfErr, inl, inr, refl, sym, ap, subst}
 use Rattle.craq_names.specs.declared.refusal.Refusal.{Refusal}
-use Rattle.craq_names.specs.declared.refusal.Refusal.TheVariants.{BadFrame, Closed, Memory}
+use Rattle.craq_names.specs.declared.refusal.Refusal.TheVariants.{Closed, Memory}
 use Rattle.craq_model.specs.declared.ask.Answer.{Answer}
 use Rattle.craq_model.specs.declared.ask.Answer.TheVariants as answers
 use Rattle.craq_model.specs.declared.ask.Ask.{Ask}
@@ -11,12 +10,10 @@ use Rattle.craq_frames.specs.declared.ask.ClientMessage.{ClientMessage}
 use Rattle.craq_frames.specs.declared.ask.ClientMessage.TheVariants as messages
 use Rattle.craq_frames.specs.declared.answer.ClientReply.{ClientReply}
 use Rattle.craq_frames.specs.declared.answer.ClientReply.TheVariants as replies
-use Rattle.craq_front.specs.Door.{IsAllowed}
 use Rattle.craq_seat.specs.Calls.{Called}
 use Rattle.craq_session.specs.declared.call_request.CallRequest.{CallRequest}
-use Rattle.craq_session.specs.Halves.{CanComeBack, IsAnothers, RefusesCall}
-use Rattle.craq_session.specs.Turns.{message_of, reply_of, name_of, for_memory, Refusing, MayReplyRefused, IsAnswered, IsCalled, IsReplied, IsReported}
-use Rattle.craq_session.proofs.Turning.{reported_turn, reported_refusal, came_turn}
+use Rattle.craq_session.specs.Halves.{CanComeBack, EndsTurn, HasOwnReceipt, IsAnothers, IsClosed, IsStatusReply, RefusesCall, asked_by, tells_none}
+use Rattle.craq_session.specs.Turns.{message_of, reply_of, name_of, for_memory, Refusing, MayReplyRefused, IsAnswered, IsCalled}
 
 -- no answer is a status, or a refusal
 no_status : (pass : ℕ) (a : Answer) (text : List ℕ) → replies.Status text ≡ reply_of pass a → ⊥
@@ -27,46 +24,36 @@ no_refusal : (pass : ℕ) (a : Answer) (refusal : Refusal) → replies.Refused r
 no_refusal pass (answers.Update reply) refusal e = cc
 no_refusal pass (answers.Read version value) refusal e = cc
 
-called_replied : (tells : List ℕ → Type 0) (old : List Called) (m : ClientMessage) (r : ClientReply) (new : List Called) → IsCalled old m r new → IsReplied tells old m r new
-called_replied tells old m (replies.Update pass reply) new h = h
-called_replied tells old m (replies.Read pass version value) new h = h
-called_replied tells old m (replies.Status text) new h = absurd (no_status _ h.0.answer text h.1.0.answered)
-called_replied tells old m (replies.Refused refusal) new h = absurd (no_refusal _ h.0.answer refusal h.1.0.answered)
+-- a call that came back with an answer
+called_answered : (tells : List ℕ → Type 0) (refuses : Refusing) (old : List Called) (m : ClientMessage) (r : ClientReply) (new : List Called) → IsCalled old m r new → IsAnswered tells refuses old m r new
+called_answered tells refuses old m (replies.Update pass reply) new h = h
+called_answered tells refuses old m (replies.Read pass version value) new h = h
+called_answered tells refuses old m (replies.Status text) new h = absurd (no_status _ h.0.answer text h.1.0.answered)
+called_answered tells refuses old m (replies.Refused refusal) new h = absurd (no_refusal _ h.0.answer refusal h.1.0.answered)
 
 -- each message may be refused when out of memory, and a call with the refusal that it came back with
-refuses_memory : (m : ClientMessage) → MayReplyRefused for_memory m Memory
-refuses_memory (messages.Update node pass update) = refl
-refuses_memory (messages.Read node pass mode object) = refl
-refuses_memory messages.Status = refl
+refuses_memory : (tells : List ℕ → Type 0) (m : ClientMessage) → MayReplyRefused tells for_memory m Memory
+refuses_memory tells (messages.Update node pass update) = refl
+refuses_memory tells (messages.Read node pass mode object) = refl
+refuses_memory tells messages.Status = inl refl
 
-refuses_call : (node pass : ℕ) (ask : Ask) (refuses : Refusing) (e : Refusal) → refuses (name_of node ask) pass ask e → MayReplyRefused refuses (message_of node pass ask) e
-refuses_call node pass (asks.Update update) refuses e is = is
-refuses_call node pass (asks.Read mode object) refuses e is = is
+refuses_call : (tells : List ℕ → Type 0) (node pass : ℕ) (ask : Ask) (refuses : Refusing) (e : Refusal) → refuses (name_of node ask) pass ask e → MayReplyRefused tells refuses (message_of node pass ask) e
+refuses_call tells node pass (asks.Update update) refuses e is = is
+refuses_call tells node pass (asks.Read mode object) refuses e is = is
 
 -- a status, or its refusal
-pub status_reported : (tells : List ℕ → Type 0) (old : List Called) (m : ClientMessage) (r : Result ClientReply Refusal) (reported : ClientReply) (new : List Called)
-    → m ≡ messages.Status → new ≡ old → IfOk r (λ reply. (text : List ℕ) × (reply ≡ replies.Status text) × tells text) → IfErr r (λ e. e ≡ Memory) → IsReported r reported → IsAnswered tells for_memory old m reported new
-status_reported tells old m (Ok reply) reported new asks same ok err t = reported_turn tells for_memory old m reply reported new (subst (λ (x : ClientReply). IsReplied tells old m x new) (sym ok.1) (asks, ok.2, same)) t
-status_reported tells old m (Err e) reported new asks same ok err t = reported_refusal tells for_memory old m e reported new (subst (λ (x : Refusal). MayReplyRefused for_memory m x) (sym err) (refuses_memory m)) same t
+pub status_answered : (tells : List ℕ → Type 0) (old : List Called) (m : ClientMessage) (reply : ClientReply) (new : List Called)
+    → m ≡ messages.Status → new ≡ old → IsStatusReply tells reply → IsAnswered tells for_memory old m reply new
+status_answered tells old m (replies.Update pass reply) new asks same h = absurd h
+status_answered tells old m (replies.Read pass version value) new asks same h = absurd h
+status_answered tells old m (replies.Status text) new asks same h = (asks, h, same)
+status_answered tells old m (replies.Refused refusal) new asks same h = (subst (λ (x : ClientMessage). MayReplyRefused tells for_memory x refusal) (sym asks) h, same)
 
 -- no room for a receipt
-pub memory_reported : (tells : List ℕ → Type 0) (old : List Called) (m : ClientMessage) (reported : ClientReply) (new : List Called) → new ≡ old → IsReported (Err Memory) reported → IsAnswered tells for_memory old m reported new
-memory_reported tells old m reported new same t = reported_refusal tells for_memory old m Memory reported new (refuses_memory m) same t
+pub memory_answered : (tells : List ℕ → Type 0) (old : List Called) (m : ClientMessage) (new : List Called) → new ≡ old → IsAnswered tells for_memory old m (replies.Refused Memory) new
+memory_answered tells old m new same = (refuses_memory tells m, same)
 
--- a call that came back
-pub call_reported : (tells : List ℕ → Type 0) (refuses : Refusing) (old : List Called) (node pass : ℕ) (ask : Ask) (r : Result ClientReply Refusal) (reported : ClientReply) (new : List Called)
-    → IfOk r (λ reply. IsCalled old (message_of node pass ask) reply new) → IfErr r (λ e. refuses (name_of node ask) pass ask e) → OnErr r (new ≡ old) → IsReported r reported → IsAnswered tells refuses old (message_of node pass ask) reported new
-call_reported tells refuses old node pass ask r reported new ok err same t =
-    let m = message_of node pass ask in
-    came_turn tells refuses old old m r reported new refl (IfOk-weaker r _ _ (λ reply is. called_replied tells old m reply new is) ok) (IfErr-weaker r _ _ (λ e is. refuses_call node pass ask refuses e is) err) same t
-
--- Closed is a reply that a request handler may give, and is neither BadFrame nor the reply of a call
-closed_allowed : IsAllowed (replies.Refused Closed)
-closed_allowed = record { rules = tt; short = tt }
-
-frame_closed : replies.Refused BadFrame ≡ replies.Refused Closed → ⊥
-frame_closed e = cc
-
+-- Closed is not the reply of a call
 called_closed : (old : List Called) (m : ClientMessage) (reply : ClientReply) (new : List Called) → IsCalled old m reply new → reply ≡ replies.Refused Closed → ⊥
 called_closed old m reply new h is = no_refusal _ h.0.answer Closed (sym is ∙ h.1.0.answered)
 
@@ -79,18 +66,29 @@ err_closed r e is closed = cc
 refused_closed : (e : Refusal) → replies.Refused e ≡ replies.Refused Closed → e ≡ Closed
 refused_closed e is = cc
 
--- the reply is Closed exactly if the call that came back is refused so
-reported_closed : (old : List Called) (m : ClientMessage) (r : Result ClientReply Refusal) (reported : ClientReply) (new : List Called)
-    → IfOk r (λ reply. IsCalled old m reply new) → IsReported r reported → (reported ≡ replies.Refused Closed) ↔ (r ≡ Err Closed)
-reported_closed old m (Ok reply) reported new ok (inl t) = (λ is. absurd (called_closed old m reply new ok (sym t.1 ∙ is)), λ is. absurd (ok_closed reply Closed is))
-reported_closed old m (Ok reply) reported new ok (inr t) = (λ is. absurd (frame_closed (sym t.1 ∙ is)), λ is. absurd (ok_closed reply Closed is))
-reported_closed old m (Err e) reported new ok (inl t) = (λ is. ap Err (refused_closed e (sym t.1 ∙ is)), λ is. t.1 ∙ ap replies.Refused (err_closed (Err e) e refl is))
-reported_closed old m (Err e) reported new ok (inr t) =
-    (λ is. absurd (frame_closed (sym t.1 ∙ is)), λ is. absurd (t.0 (subst (λ (x : Refusal). IsAllowed (replies.Refused x)) (sym (err_closed (Err e) e refl is)) closed_allowed)))
+abbrev IsRefusedClosed : Result ClientReply Refusal → Type 0
+IsRefusedClosed r = r ≡ Err Closed
 
-pub ends_closed : (old : List Called) (m : ClientMessage) (r : Result ClientReply Refusal) (reported : ClientReply) (new : List Called) (P : Type 0)
-    → IfOk r (λ reply. IsCalled old m reply new) → IsReported r reported → (r ≡ Err Closed) ↔ P → (reported ≡ replies.Refused Closed) ↔ P
-ends_closed old m r reported new P ok t same = let h = reported_closed old m r reported new ok t in (λ is. same.0 (h.0 is), λ p. h.1 (same.1 p))
+module _ (q : CallRequest) (outcome : Result Called Refusal) (old new : List Called) where
+  -- the turn of a call that came back with an answer
+  pub answer_ends : (reply : ClientReply) → IsCalled old (asked_by q) reply new → IsRefusedClosed (Ok reply) ↔ IsClosed q outcome → HasOwnReceipt outcome old new → EndsTurn q outcome old reply new
+  answer_ends reply called closed own =
+      let refuses : Refusing = λ node pass ask e. RefusesCall q outcome e in
+      record {
+        answered = called_answered tells_none refuses old (asked_by q) reply new called;
+        closed = (λ is. absurd (called_closed old (asked_by q) reply new called is), λ p. absurd (ok_closed reply Closed (closed.1 p)));
+        own = own;
+      }
+
+  -- the turn of a call that came back refused
+  pub refusal_ends : (e : Refusal) → RefusesCall q outcome e → new ≡ old → IsRefusedClosed (Err e) ↔ IsClosed q outcome → HasOwnReceipt outcome old new → EndsTurn q outcome old (replies.Refused e) new
+  refusal_ends e is same closed own =
+      let refuses : Refusing = λ node pass ask e. RefusesCall q outcome e in
+      record {
+        answered = (refuses_call tells_none q.node.node q.pass q.ask refuses e is, same);
+        closed = (λ c. closed.0 (ap Err (refused_closed e c)), λ p. ap replies.Refused (err_closed (Err e) e refl (closed.1 p)));
+        own = own;
+      }
 
 -- an answer that came back is refused as Closed exactly where it is another call's
 pub answered_refused : (q : CallRequest) (c : Called) (outcome : Result Called Refusal) (e x : Refusal) (r : Result ClientReply Refusal)

@@ -3,5 +3,5 @@ pub mod Completions
 pub mod ConnectionStates
 pub mod Halves
 pub mod Receipts
-pub mod Turning
+pub mod Reportable
 pub mod TwoHalves

@@ -13,53 +13,39 @@ use Rattle.craq_session.specs.declared.calls.ReceiptPolicy.{ReceiptPolicy}
 use Rattle.craq_session.specs.declared.call_request.CallRequest.{CallRequest}
 use Rattle.craq_session.specs.declared.call_request.Begun.TheVariants as begun
 use Rattle.craq_session.specs.Halves.{BeginsTurn, EndsTurn, IsRefusable, RefusesCall, asked_by, tells_none}
-use Rattle.craq_session.specs.Turns.{Refusing, MayReplyRefused, IsAnswered, IsHidden, IsRefused, IsReplied, IsTurn, for_memory, kept, message_of, name_of, or_memory_where}
+use Rattle.craq_session.specs.Turns.{Refusing, MayReplyRefused, IsAnswered, IsTurn, for_memory, kept, message_of, name_of, or_memory_where}
 
 -- a turn under fewer texts of a status and fewer refusals is one under more
-module _ (told tells : List ℕ → Type 0) (texts : (text : List ℕ) → told text → tells text) (r s : Refusing) (old : List Called) (m : ClientMessage) (new : List Called) (more : (e : Refusal) → MayReplyRefused r m e → MayReplyRefused s m e) where
-  replied_too : (reply : ClientReply) → IsReplied told old m reply new → IsReplied tells old m reply new
-  replied_too (replies.Update pass reply) h = h
-  replied_too (replies.Read pass version value) h = h
-  replied_too (replies.Status text) h = (h.0, texts text h.1, h.2)
-  replied_too (replies.Refused refusal) h = absurd h
-
-  hidden_too : IsHidden told r old m new → IsHidden tells s old m new
-  hidden_too (inl h) = inl (h.0, h.1, more h.0 h.2, h.3)
-  hidden_too (inr h) = inr (h.0, h.1, replied_too h.0 h.2)
-
-  refused_too : (refusal : Refusal) → IsRefused told r old m refusal new → IsRefused tells s old m refusal new
-  refused_too refusal (inl h) = inl (more refusal h.0, h.1)
-  refused_too refusal (inr h) = inr (h.0, hidden_too h.1)
-
+module _ (told tells : List ℕ → Type 0) (texts : (text : List ℕ) → told text → tells text) (r s : Refusing) (old : List Called) (m : ClientMessage) (new : List Called) (more : (e : Refusal) → MayReplyRefused told r m e → MayReplyRefused tells s m e) where
   answered_too : (reported : ClientReply) → IsAnswered told r old m reported new → IsAnswered tells s old m reported new
   answered_too (replies.Update pass reply) h = h
   answered_too (replies.Read pass version value) h = h
   answered_too (replies.Status text) h = (h.0, texts text h.1, h.2)
-  answered_too (replies.Refused refusal) h = refused_too refusal h
+  answered_too (replies.Refused refusal) h = (more refusal h.0, h.1)
 
-module _ (lacks : Type 0) (refuses : Refusing) where
-  -- a message that no call was made for is refused only when out of memory: a status, or where there was no room for a receipt
-  memory_too : (m : ClientMessage) → (m ≡ messages.Status) ⊎ lacks → (e : Refusal) → MayReplyRefused for_memory m e → MayReplyRefused (or_memory_where lacks refuses) m e
+module _ (tells : List ℕ → Type 0) (lacks : Type 0) (refuses : Refusing) where
+  -- a message that no call was made for is refused as a status is; or when out of memory, where there was no room for a receipt
+  memory_too : (m : ClientMessage) → (m ≡ messages.Status) ⊎ lacks → (e : Refusal) → MayReplyRefused tells for_memory m e → MayReplyRefused tells (or_memory_where lacks refuses) m e
   memory_too (messages.Update node pass update) (inl is) e h = absurd cc
   memory_too (messages.Update node pass update) (inr full) e h = inl (h, full)
   memory_too (messages.Read node pass mode object) (inl is) e h = absurd cc
   memory_too (messages.Read node pass mode object) (inr full) e h = inl (h, full)
   memory_too messages.Status why e h = h
 
-  pub begun_turn : (tells : List ℕ → Type 0) (policy : ReceiptPolicy) (old new : List Called) (m : ClientMessage) (reply : ClientReply)
+  pub begun_turn : (policy : ReceiptPolicy) (old new : List Called) (m : ClientMessage) (reply : ClientReply)
       → (m ≡ messages.Status) ⊎ lacks → IsTurn tells for_memory policy old m reply new → IsTurn tells (or_memory_where lacks refuses) policy old m reply new
-  begun_turn tells policy old new m reply why h =
+  begun_turn policy old new m reply why h =
       answered_too tells tells (λ text is. is) for_memory (or_memory_where lacks refuses) (kept policy old) m new (memory_too m why) reply h
 
   call_too : (r : Refusing) (node pass : ℕ) (ask : Ask) → ((e : Refusal) → r (name_of node ask) pass ask e → refuses (name_of node ask) pass ask e)
-      → (e : Refusal) → MayReplyRefused r (message_of node pass ask) e → MayReplyRefused (or_memory_where lacks refuses) (message_of node pass ask) e
+      → (e : Refusal) → MayReplyRefused tells_none r (message_of node pass ask) e → MayReplyRefused tells (or_memory_where lacks refuses) (message_of node pass ask) e
   call_too r node pass (asks.Update update) more e h = inr (more e h)
   call_too r node pass (asks.Read mode object) more e h = inr (more e h)
 
   -- a call that its backend may refuse with all that it can come back with
-  pub halves_turn : (tells : List ℕ → Type 0) (policy : ReceiptPolicy) (old mid new : List Called) (m : ClientMessage) (q : CallRequest) (outcome : Result Called Refusal) (reply : ClientReply)
+  pub halves_turn : (policy : ReceiptPolicy) (old mid new : List Called) (m : ClientMessage) (q : CallRequest) (outcome : Result Called Refusal) (reply : ClientReply)
       → IsRefusable refuses q outcome → BeginsTurn tells policy old m (begun.Calls q) mid → EndsTurn q outcome mid reply new → IsTurn tells (or_memory_where lacks refuses) policy old m reply new
-  halves_turn tells policy old mid new m q outcome reply may h ends =
+  halves_turn policy old mid new m q outcome reply may h ends =
       let r : Refusing = λ node pass ask e. RefusesCall q outcome e in
       let more : (e : Refusal) → RefusesCall q outcome e → refuses (name_of q.node.node q.ask) q.pass q.ask e = λ e is. subst (λ (x : NodeName). refuses x q.pass q.ask e) h.1 (may e is) in
       let whole : IsAnswered tells (or_memory_where lacks refuses) mid (asked_by q) reply new =

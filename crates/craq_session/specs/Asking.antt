@@ -4,6 +4,7 @@ use Rattle.craq_completions.specs.declared.token.Token.{Token}
 use Rattle.craq_names.specs.declared.refusal.Refusal.{Refusal}
 use Rattle.craq_model.specs.declared.ask.Ask.{Ask}
 use Rattle.craq_completions.specs.Refused.{CanRefuse}
+use Rattle.craq_frames.specs.Payload.{NamesNode}
 use Rattle.craq_seat.specs.Calls.{Called}
 use Rattle.craq_session.specs.Turns.{Refusing}
 use Rattle.craq_session.specs.declared.connection_state.Phase.{Phase}
@@ -13,6 +14,10 @@ use Rattle.craq_session.specs.declared.call_request.CallRequest.{CallRequest}
 -- a call may be refused with whatever an ask of its kind may be refused with
 abbrev pub MayHaveAny : Refusing → CallRequest → Type 0
 MayHaveAny refuses q = (e : Refusal) → CanRefuse q.ask e → refuses q.node q.pass q.ask e
+
+-- the outcome of a call can be reported: it is an answer, or a refusal that has an encoding
+abbrev pub IsReportable : Result Called Refusal → Type 0
+IsReportable outcome = IfErr outcome (λ e. NamesNode e)
 
 -- calls that were submitted in sessions: the session before, the request, its immediate reply, if there was one, or the refusal of a call
 -- that was not made, and the session after

@@ -17,7 +17,7 @@ use Rattle.craq_session.specs.declared.call_request.Demand.TheVariants as demand
 use Rattle.craq_session.specs.declared.call_request.Begun.{Begun}
 use Rattle.craq_session.specs.declared.call_request.Begun.TheVariants as begun
 use Rattle.craq_session.specs.Asking.{Finishing, HasCalled, Submitting}
-use Rattle.craq_session.specs.Turns.{message_of, kept, name_of, for_memory, Refusing, IsAnswered, IsTurn}
+use Rattle.craq_session.specs.Turns.{message_of, kept, name_of, for_memory, Refusing, IsAnswered, IsStatusRefused, IsTurn}
 
 -- the message that asks for this call
 abbrev pub asked_by : CallRequest → ClientMessage
@@ -27,6 +27,12 @@ asked_by q = message_of q.node.node q.pass q.ask
 abbrev pub Asks : ClientMessage → Demand → Type 0
 Asks m (demands.Call q) = (m ≡ asked_by q) × (q.node ≡ name_of q.node.node q.ask)
 Asks m demands.Status = m ≡ messages.Status
+
+-- the reply to a request for a status: a text of the store, or the refusal of a status
+abbrev pub IsStatusReply : (List ℕ → Type 0) → ClientReply → Type 0
+IsStatusReply tells (replies.Status text) = tells text
+IsStatusReply tells (replies.Refused refusal) = IsStatusRefused tells refusal
+IsStatusReply tells reply = ⊥
 
 -- the first half of a turn: it is over with this reply, or a call of a node of the chain of the ask's first object is to be
 -- made, and only the receipts that are not kept went

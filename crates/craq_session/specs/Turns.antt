@@ -1,5 +1,5 @@
 -- Replies of a store's request handler.
-use Rattle.std.specs.Prelude.{◌≡◌, ◌⊎◌, ℕ, List, [], ◌∷◌, ◌++◌, max, Result, Ok, Err}
+use Rattle.std.specs.Prelude.{◌≡◌, ◌⊎◌, ℕ, List, [], ◌∷◌, ◌++◌, max}
 use Rattle.craq_names.specs.declared.name.NodeName.{NodeName}
 use Rattle.craq_names.specs.declared.refusal.Refusal.{Refusal}
 use Rattle.craq_names.specs.declared.refusal.Refusal.TheVariants.{BadFrame, Memory}
@@ -67,37 +67,21 @@ for_memory node pass ask e = e ≡ Memory
 abbrev pub or_memory_where : Type 0 → Refusing → Refusing
 or_memory_where lacks refuses node pass ask e = ((e ≡ Memory) × lacks) ⊎ refuses node pass ask e
 
--- the refusals that can replace a reply: of a call those with which it may be refused; of a status only that it is out of memory
-abbrev pub MayReplyRefused : Refusing → ClientMessage → Refusal → Type 0
-MayReplyRefused refuses (messages.Update node pass update) e = refuses (name_of node (asks.Update update)) pass (asks.Update update) e
-MayReplyRefused refuses (messages.Read node pass mode object) e = refuses (name_of node (asks.Read mode object)) pass (asks.Read mode object) e
-MayReplyRefused refuses messages.Status e = e ≡ Memory
+-- a status is refused when out of memory; or as BadFrame, where a text of the store is too long for a reply
+abbrev pub IsStatusRefused : (List ℕ → Type 0) → Refusal → Type 0
+IsStatusRefused tells e = (e ≡ Memory) ⊎ ((e ≡ BadFrame) × ((text : List ℕ) × tells text × (¬ IsAllowed (replies.Status text))))
 
--- the outcome of a message is none that a request handler may give: a refusal, and no receipt came, or a reply
-abbrev pub IsHidden : (List ℕ → Type 0) → Refusing → List Called → ClientMessage → List Called → Type 0
-IsHidden tells refuses old message new =
-    ((e : Refusal) × (¬ IsAllowed (replies.Refused e)) × MayReplyRefused refuses message e × (new ≡ old))
-    ⊎ ((reply : ClientReply) × (¬ IsAllowed reply) × IsReplied tells old message reply new)
+-- the refusals of a message: of a call those with which it may be refused, or those of a status
+abbrev pub MayReplyRefused : (List ℕ → Type 0) → Refusing → ClientMessage → Refusal → Type 0
+MayReplyRefused tells refuses (messages.Update node pass update) e = refuses (name_of node (asks.Update update)) pass (asks.Update update) e
+MayReplyRefused tells refuses (messages.Read node pass mode object) e = refuses (name_of node (asks.Read mode object)) pass (asks.Read mode object) e
+MayReplyRefused tells refuses messages.Status e = IsStatusRefused tells e
 
--- the message has no answer, and no receipt came; or the refusal is BadFrame, and the outcome is none that a handler may give
-abbrev pub IsRefused : (List ℕ → Type 0) → Refusing → List Called → ClientMessage → Refusal → List Called → Type 0
-IsRefused tells refuses old message refusal new =
-    (MayReplyRefused refuses message refusal × (new ≡ old)) ⊎ ((refusal ≡ BadFrame) × IsHidden tells refuses old message new)
-
--- a turn of a door that has these receipts as it begins
+-- a turn of a door that has these receipts as it begins. No receipt came of a message that is refused
 abbrev pub IsAnswered : (List ℕ → Type 0) → Refusing → List Called → ClientMessage → ClientReply → List Called → Type 0
-IsAnswered tells refuses old message (replies.Refused refusal) new = IsRefused tells refuses old message refusal new
+IsAnswered tells refuses old message (replies.Refused refusal) new = MayReplyRefused tells refuses message refusal × (new ≡ old)
 IsAnswered tells refuses old message reply new = IsReplied tells old message reply new
 
 -- a turn of a request handler that keeps its receipts or not. A status has a text of the store, and a call is refused as it may be
 abbrev pub IsTurn : (List ℕ → Type 0) → Refusing → ReceiptPolicy → List Called → ClientMessage → ClientReply → List Called → Type 0
 IsTurn tells refuses policy old message reply new = IsAnswered tells refuses (kept policy old) message reply new
-
--- the reply is given as it is if a request handler may give it; else it is refused
-abbrev pub IsReplyAllowed : ClientReply → ClientReply → Type 0
-IsReplyAllowed reply reported = (IsAllowed reply × (reported ≡ reply)) ⊎ ((¬ IsAllowed reply) × (reported ≡ replies.Refused BadFrame))
-
--- the reply that is reported for the outcome of a message: its reply, or its refusal
-abbrev pub IsReported : Result ClientReply Refusal → ClientReply → Type 0
-IsReported (Ok reply) reported = IsReplyAllowed reply reported
-IsReported (Err refusal) reported = IsReplyAllowed (replies.Refused refusal) reported

@@ -1,7 +1,7 @@
 //! The right to submit a call, which a step makes, and the outcome of the call: it comes at once, or
 //! by a completion.
-ghost use Rattle.std.specs.Prelude.{◌≡◌};
-ghost use Rattle.craq_session.specs.Asking.{IsRefusedAtOnce, IsSubmitted};
+ghost use Rattle.std.specs.Prelude.{◌≡◌, IfSome};
+ghost use Rattle.craq_session.specs.Asking.{IsRefusedAtOnce, IsReportable, IsSubmitted};
 
 use crate::{AsyncBackend, CallRequest};
 use craq_completions::{Outcome, Token};
@@ -58,6 +58,7 @@ pub enum Load {
 
 /// Submits a call in the session. Returns its outcome if it comes at once; else `None`, and a
 /// completion will come.
+#[tactic(auto, using(crate::proofs::Reportable::reportable_finished))]
 pub(crate) fn submit_call<B: AsyncBackend>(
     backend: &B,
     session: &mut B::Session,
@@ -66,6 +67,7 @@ pub(crate) fn submit_call<B: AsyncBackend>(
 ) -> Option<Outcome>
     ensures submitted { IsSubmitted (B.submits backend.now submit_token.token) (B.finishes backend.now) request.now session.old result session.new }
     ensures refused { IsRefusedAtOnce (B.refuses backend.now) request.now result }
+    ensures reportable { IfSome result (λ outcome. IsReportable outcome) }
 {
     match backend.submit(session, submit_token, request) {
         Ok(None) => None,

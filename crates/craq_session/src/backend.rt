@@ -6,6 +6,7 @@ ghost use Rattle.craq_model.specs.declared.ask.Ask.{Ask};
 ghost use Rattle.craq_names.specs.declared.name.NodeName.{NodeName};
 ghost use Rattle.craq_names.specs.declared.refusal.Refusal.{Refusal};
 ghost use Rattle.craq_completions.specs.Refused.{CanRefuse};
+ghost use Rattle.craq_frames.specs.Payload.{NamesNode};
 ghost use Rattle.craq_seat.specs.Calls.{Called};
 ghost use Rattle.craq_session.specs.Asking.{MayHaveAny, at_once};
 ghost use Rattle.craq_session.specs.declared.call_request.CallRequest.{CallRequest};
@@ -56,8 +57,9 @@ pub trait AsyncBackend: Backend {
     /// `None`, and a completion with the token will come. No other call may have the token until
     /// then.
     ///
-    /// Refused only as this backend may refuse the call: none is made then, and no completion
-    /// comes. A call that was made may be refused with any refusal of its kind of request.
+    /// Refused only as this backend may refuse the call, with a refusal that has an encoding: none
+    /// is made then, and no completion comes. A call that was made may be refused with any refusal
+    /// of its kind of request.
     fn submit(
         &self,
         session: &mut Self::Session,
@@ -65,6 +67,7 @@ pub trait AsyncBackend: Backend {
         request: &CallRequest,
     ) -> Result<Option<Self::Reply>, Refusal>
         ensures refused { IfErr result (λ e. Self.refuses self.now request.now.node request.now.pass request.now.ask e) }
+        ensures encodable { IfErr result (λ e. NamesNode e) }
         ensures asked { IfOk result (λ _. MayHaveAny (Self.refuses self.now) request.now) }
         ensures submitted { submits self.now submit_token.token session.old request.now (at_once result) session.new };
 

@@ -1,14 +1,16 @@
 //! The two halves of a request whose call is answered later: the call that it asks for, and its
 //! reply once the call has its outcome; called by `phases`.
-ghost use Rattle.std.specs.Prelude.{◌≡◌, ◌↔◌, ℕ, List, Err, IfErr, IfOk, OnErr};
+ghost use Rattle.std.specs.Prelude.{◌≡◌, ◌↔◌, Err, IfErr, IfOk, OnErr};
+ghost use Rattle.craq_frames.specs.Payload.{NamesNode};
 ghost use Rattle.craq_front.specs.Door.{IsAllowed};
+ghost use Rattle.craq_session.specs.Asking.{IsReportable};
 ghost use Rattle.craq_session.specs.Turns.{IsCalled, kept, name_of};
-ghost use Rattle.craq_session.specs.Halves.{Asks, BeginsTurn, EndsTurn, HasOwnReceipt, HasRoom, IsClosed, MakesRoom, RefusesCall, asked_by};
+ghost use Rattle.craq_session.specs.Halves.{Asks, BeginsTurn, EndsTurn, HasOwnReceipt, HasRoom, IsClosed, IsStatusReply, MakesRoom, RefusesCall, asked_by};
 
-use crate::telling::reported;
 use crate::{Backend, DoorCalls};
 use craq_completions::answer_of_call;
 use craq_frames::{ClientMessage, ClientReply};
+use craq_front::is_allowed;
 use craq_model::Ask;
 use craq_names::{NodeId, NodeName, Pass, Refusal};
 use craq_seat::CallReceipt;
@@ -69,18 +71,28 @@ fn demand_of(message: ClientMessage) -> Demand
     }
 }
 
-/// Returns the text of a status as a reply. Fails only when out of memory.
-fn status_of<C: Backend>(backend: &C) -> Result<ClientReply, Refusal>
-    ensures ok { IfOk result (λ reply. (text : List ℕ) × (reply ≡ ClientReply.Status text) × C.tells backend.now text) }
-    ensures err { IfErr result (λ e. e ≡ Refusal.Memory) }
+/// Returns the reply to a request for a status: its text, or `Refused(Memory)` when out of memory.
+/// Instead of a text that is too long for a reply it is `Refused(BadFrame)`.
+#[tactic(auto, using(crate::proofs::Reportable::long_status, crate::proofs::Reportable::memory_allowed, crate::proofs::Reportable::frame_allowed))]
+fn status_reply<C: Backend>(backend: &C) -> ClientReply
+    ensures reply { IsStatusReply (C.tells backend.now) result }
+    ensures allowed { IsAllowed result }
 {
-    Ok(ClientReply::Status(backend.status()?))
+    let Ok(text) = backend.status() else {
+        return ClientReply::Refused(Refusal::Memory);
+    };
+    let reply = ClientReply::Status(text);
+    if is_allowed(&reply) {
+        reply
+    } else {
+        ClientReply::Refused(Refusal::BadFrame)
+    }
 }
 
 /// Begins a request. A status is answered at once. For a call, room for its receipt is made, and is
 /// there when the call has its outcome; without it the reply is `Refused(Memory)`, and the call is
 /// not made.
-#[tactic(auto, using(crate::proofs::Halves::status_reported, crate::proofs::Halves::memory_reported))]
+#[tactic(auto, using(crate::proofs::Halves::status_answered, crate::proofs::Halves::memory_answered, crate::proofs::Reportable::memory_allowed))]
 pub(crate) fn begin_turn<C: Backend>(
     backend: &C,
     calls: &mut DoorCalls,
@@ -93,12 +105,12 @@ pub(crate) fn begin_turn<C: Backend>(
 {
     calls.begin();
     match demand_of(message) {
-        Demand::Status => Begun::Reported(reported(status_of(backend))),
+        Demand::Status => Begun::Reported(status_reply(backend)),
         Demand::Call(request) => match calls.make_room() {
             Ok(()) => Begun::Calls(request),
             Err(_) => {
                 drop(request);
-                Begun::Reported(reported(Err(Refusal::Memory)))
+                Begun::Reported(ClientReply::Refused(Refusal::Memory))
             }
         },
     }
@@ -116,9 +128,12 @@ fn reply_of_call(
     request: &CallRequest,
     outcome: Result<CallReceipt, Refusal>,
 ) -> Result<ClientReply, Refusal>
-    requires { HasRoom calls.old }
+    requires room { HasRoom calls.old }
+    requires reportable { IsReportable outcome }
     ensures called { IfOk result (λ reply. IsCalled calls.old.receipts.items (asked_by request.now) reply calls.new.receipts.items) }
+    ensures allowed { IfOk result (λ reply. IsAllowed reply) }
     ensures refused { IfErr result (λ e. RefusesCall request.now outcome e) }
+    ensures encodable { IfErr result (λ e. NamesNode e) }
     ensures closed { (result ≡ Err Refusal.Closed) ↔ IsClosed request.now outcome }
     ensures same { OnErr result (calls.new.receipts.items ≡ calls.old.receipts.items) }
     ensures own { HasOwnReceipt outcome calls.old.receipts.items calls.new.receipts.items }
@@ -136,20 +151,25 @@ fn reply_of_call(
 }
 
 /// Ends the request that asked for this call, with the room that `begin_turn` made. Returns the
-/// reply to the call, or its refusal. Of a call that was answered the reply is `Refused(Closed)`
-/// exactly where the receipt is that of another call, and `Refused(Memory)` only where there was no
-/// memory for a copy of the answer. A reply that no request handler may give becomes
-/// `Refused(BadFrame)`. The receipts are unchanged after a refusal.
+/// reply to the call, or its refusal; no other refusal replaces either. Of a call that was answered
+/// the reply is `Refused(Closed)` exactly where the receipt is that of another call, and
+/// `Refused(Memory)` only where there was no memory for a copy of the answer. The receipts are
+/// unchanged after a refusal.
+#[tactic(auto, using(crate::proofs::Reportable::refusal_allowed))]
 pub(crate) fn end_turn(
     alloc: Global,
     calls: &mut DoorCalls,
     request: &CallRequest,
     outcome: Result<CallReceipt, Refusal>,
 ) -> ClientReply
-    requires { HasRoom calls.old }
+    requires room { HasRoom calls.old }
+    requires reportable { IsReportable outcome }
     ensures ends { EndsTurn request.now outcome calls.old.receipts.items result calls.new.receipts.items }
     ensures allowed { IsAllowed result }
     ensures policy { calls.new.policy ≡ calls.old.policy }
 {
-    reported(reply_of_call(alloc, calls, request, outcome))
+    match reply_of_call(alloc, calls, request, outcome) {
+        Ok(reply) => reply,
+        Err(refusal) => ClientReply::Refused(refusal),
+    }
 }

@@ -1,6 +1,8 @@
 //! `DoorCalls`: the receipts of a connection's calls, and the reply to a call; for `door` and
 //! `request`.
 ghost use Rattle.std.specs.Prelude.{◌≡◌, ◌≤◌, [], ◌∷◌, ◌++◌, length, vec_capacity, OnOk, OnErr};
+ghost use Rattle.craq_front.specs.Door.{IsAllowed};
+ghost use Rattle.craq_node_invariant.specs.Sound.{IsEncodableAnswer};
 ghost use Rattle.craq_session.specs.Halves.{HasNoRoom, HasRoom};
 ghost use Rattle.craq_session.specs.Turns.{IsReplyOf, kept, message_of, reply_of};
 
@@ -31,9 +33,13 @@ pub struct DoorCalls {
     pub(crate) receipts: Vec<CallReceipt>,
 }
 
-/// Returns the reply with the answer of a call and the pass that the client has after it.
+/// Returns the reply with the answer of a call and the pass that the client has after it. A request
+/// handler may give it, since the answer has an encoding.
+#[tactic(auto, using(crate::proofs::Reportable::update_allowed, crate::proofs::Reportable::read_allowed))]
 fn reply_of(answer: Answer, pass: Pass) -> ClientReply
-    ensures { result ≡ reply_of pass answer }
+    requires { IsEncodableAnswer answer }
+    ensures reply { result ≡ reply_of pass answer }
+    ensures allowed { IsAllowed result }
 {
     match answer {
         Answer::Update(reply) => ClientReply::Update { pass, reply },
@@ -86,9 +92,11 @@ impl DoorCalls {
     /// the answer. Takes no memory.
     pub(crate) fn reply_to(&mut self, answer: Answer, receipt: CallReceipt) -> ClientReply
         requires answered { answer ≡ receipt.answer }
+        requires encodable { IsEncodableAnswer answer }
         requires room { HasRoom self.old }
         ensures policy { self.new.policy ≡ self.old.policy }
         ensures reply { IsReplyOf (message_of receipt.call.asked.node receipt.call.pass receipt.call.ask) result receipt }
+        ensures allowed { IsAllowed result }
         ensures receipts { self.new.receipts.items ≡ self.old.receipts.items ++ receipt ∷ [] }
     {
         let pass = pass_after(receipt.pass(), &receipt);

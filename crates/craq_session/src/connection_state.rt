@@ -74,11 +74,11 @@ pub struct ConnectionState<T> {
 }
 
 impl<T> ConnectionState<T> {
-    ghost use Rattle.std.specs.Prelude.{◌≤◌, ◌⊎◌, ◌↔◌, ℕ, List, [], ◌++◌, take, drop, length, IsTrue, OnOk, OnErr};
+    ghost use Rattle.std.specs.Prelude.{◌≤◌, ◌⊎◌, ◌↔◌, ℕ, List, [], ◌++◌, take, drop, length, IfSome, IsTrue, OnOk, OnErr};
     ghost use Rattle.std.specs.Option.{option_copied};
     ghost use Rattle.craq_frames.specs.declared.ask.ClientMessage.{ClientMessage};
     ghost use Rattle.craq_front.specs.Talk.{History};
-    ghost use Rattle.craq_session.specs.Asking.{IsAsked, IsOutcome, called_by};
+    ghost use Rattle.craq_session.specs.Asking.{IsAsked, IsOutcome, IsReportable, called_by};
     ghost use Rattle.craq_session.specs.ConnectionStates.{AnswersCall, Holds, IsUnderWay, Took, ending_of};
 
     /// Makes the state of a new connection with its session and the policy for its receipts. Takes
@@ -190,7 +190,8 @@ impl<T> ConnectionState<T> {
 
     /// Makes the call that is under way in the session, under this token. Returns its outcome at
     /// once, a receipt or a refusal; else `None`, and a completion with this token will come
-    /// (`AsyncBackend::submit`). Where no call is under way none is made.
+    /// (`AsyncBackend::submit`). Where no call is under way none is made. `answer` takes the
+    /// outcome.
     #[tactic(auto, using(crate::proofs::Asked::asked))]
     pub fn ask<B: AsyncBackend<Session = T>>(
         &mut self,
@@ -200,6 +201,7 @@ impl<T> ConnectionState<T> {
         load: Load,
     ) -> Option<Outcome>
         ensures asked { IsAsked (B.refuses backend.now) (called_by (B.submits backend.now) (B.finishes backend.now) token) self.old.phase self.old.session result self.new.session }
+        ensures reportable { IfSome result (λ outcome. IsReportable outcome) }
         ensures phase { self.new.phase ≡ self.old.phase }
         ensures codec { self.new.codec ≡ self.old.codec }
         ensures calls { self.new.calls ≡ self.old.calls }
@@ -212,12 +214,13 @@ impl<T> ConnectionState<T> {
         submit_call(backend, &mut self.session, submit_token, request)
     }
 
-    /// Returns the outcome of the call that is under way, by the reply of its completion. The
-    /// session finishes the call (`AsyncBackend::finish`). Nothing happens in it where no call is
-    /// under way.
-    #[tactic(auto, using(crate::proofs::Asked::finished))]
+    /// Returns the outcome of the call that is under way, by the reply of its completion, for
+    /// `answer`. The session finishes the call (`AsyncBackend::finish`). Nothing happens in it where
+    /// no call is under way.
+    #[tactic(auto, using(crate::proofs::Asked::finished, crate::proofs::Reportable::reportable_finished))]
     pub fn finish<B: AsyncBackend<Session = T>>(&mut self, backend: &B, reply: B::Reply) -> Outcome
         ensures outcome { IsOutcome (B.finishes backend.now) self.old.phase reply self.old.session result self.new.session }
+        ensures reportable { IsReportable result }
         ensures phase { self.new.phase ≡ self.old.phase }
         ensures codec { self.new.codec ≡ self.old.codec }
         ensures calls { self.new.calls ≡ self.old.calls }
@@ -233,6 +236,7 @@ impl<T> ConnectionState<T> {
     /// bytes, and keeps the receipt behind the others (`end_turn`). Out of memory for the bytes of
     /// the reply it is over, and nothing is appended. Unchanged where no call is under way.
     pub fn answer(&mut self, alloc: Global, outcome: Outcome)
+        requires { IsReportable outcome }
         ensures answers { AnswersCall self.old.phase outcome self.new.phase self.old.codec self.new.codec self.old.calls self.new.calls }
         ensures policy { self.new.calls.policy ≡ self.old.calls.policy }
         ensures session { self.new.session ≡ self.old.session }

@@ -1,7 +1,7 @@
 //! `CallDoor`: the request handler of a connection that has a thread of its own. It makes the call
 //! of a request and waits for its completion.
 ghost use Rattle.std.specs.Prelude.{◌≡◌, []};
-ghost use Rattle.craq_session.specs.Asking.{HasCalled, only_token};
+ghost use Rattle.craq_session.specs.Asking.{HasCalled, IsReportable, only_token};
 ghost use Rattle.craq_session.specs.Halves.{HasAsked, IsFull, IsRefusable};
 ghost use Rattle.craq_session.specs.Turns.{IsTurn, kept, or_memory_where};
 
@@ -53,8 +53,10 @@ impl<C: BlockingBackend<Session = T>, T> CallDoor<C, T> {
     }
 
     /// Makes the call of a request, and waits for its outcome.
+    #[tactic(auto, using(crate::proofs::Reportable::reportable_finished))]
     fn call(&mut self, request: &CallRequest) -> Outcome
         ensures refusable { IsRefusable (C.refuses self.old.backend) request.now result }
+        ensures reportable { IsReportable result }
         ensures called { HasCalled (C.submits self.old.backend only_token) (C.finishes self.old.backend) request.now self.old.session result self.new.session }
         ensures calls { self.new.calls ≡ self.old.calls }
         ensures backend { self.new.backend ≡ self.old.backend }

@@ -10,7 +10,6 @@ mod calls;
 mod connection_state;
 mod door;
 mod phases;
-mod telling;
 
 pub use asking::{Load, SubmitToken, UnsentCall};
 pub use backend::{AsyncBackend, Backend, BlockingBackend};

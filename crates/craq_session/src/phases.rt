@@ -1,6 +1,7 @@
 //! The next state of a connection after a step or the outcome of a call; for `connection_state`.
 ghost use Rattle.std.specs.Prelude.{◌≡◌, None};
 ghost use Rattle.craq_front.specs.Door.{IsAllowed};
+ghost use Rattle.craq_session.specs.Asking.{IsReportable};
 ghost use Rattle.craq_session.specs.ConnectionStates.{AnswersCall, Continues, Found, HasNoMore, HasOneMore, KeepsRoom, Took};
 ghost use Rattle.craq_frames.specs.declared.ask.ClientMessage.{ClientMessage};
 
@@ -105,6 +106,7 @@ pub(crate) fn answered(
 ) -> Phase
     requires idle { phase ≡ Phase.Idle → codec.old.asking ≡ None }
     requires room { KeepsRoom phase calls.old }
+    requires reportable { IsReportable outcome }
     ensures answers { AnswersCall phase outcome result codec.old codec.new calls.old calls.new }
     ensures policy { calls.new.policy ≡ calls.old.policy }
     ensures idle { result ≡ Phase.Idle → codec.new.asking ≡ None }

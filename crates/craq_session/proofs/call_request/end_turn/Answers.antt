@@ -1,16 +1,10 @@
-use Rattle.craq_session.specs.Halves.{IsClosed, RefusesCall, asked_by, tells_none}
-use Rattle.craq_session.proofs.Halves.{call_reported, ends_closed}
+use Rattle.craq_session.proofs.Halves.{answer_ends, refusal_ends}
 use Rattle.craq_session.proofs.call_request.end_turn.Goals as goal
 
-pub returns-clause-ends : goal.returns-clause-ends
-returns-clause-ends c =
-    let q = c.args.request.now in
-    let old = c.args.calls.now.receipts.items in
-    let new = c.reply_of_call.new.calls.receipts.items in
-    let answered = call_reported tells_none (λ node pass ask e. RefusesCall q c.args.outcome e) old q.node.node q.pass q.ask c.reply_of_call.result c.reported.result new c.reply_of_call.ensures.called
-    c.reply_of_call.ensures.refused c.reply_of_call.ensures.same c.reported.ensures.reported in
-    record {
-      answered = answered;
-      closed = ends_closed old (asked_by q) c.reply_of_call.result c.reported.result new (IsClosed q c.args.outcome) c.reply_of_call.ensures.called c.reported.ensures.reported c.reply_of_call.ensures.closed;
-      own = c.reply_of_call.ensures.own;
-    }
+pub returns-in-Ok-clause-ends : goal.returns-in-Ok-clause-ends
+returns-in-Ok-clause-ends c =
+    answer_ends c.args.request.now c.args.outcome c.args.calls.now.receipts.items c.reply_of_call.new.calls.receipts.items c.in-Ok.reply c.in-Ok.ensures.called c.in-Ok.ensures.closed c.in-Ok.ensures.own
+
+pub returns-in-Err-clause-ends : goal.returns-in-Err-clause-ends
+returns-in-Err-clause-ends c =
+    refusal_ends c.args.request.now c.args.outcome c.args.calls.now.receipts.items c.reply_of_call.new.calls.receipts.items c.in-Err.refusal c.in-Err.ensures.refused c.in-Err.ensures.same c.in-Err.ensures.closed c.in-Err.ensures.own

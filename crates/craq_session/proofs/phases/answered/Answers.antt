@@ -5,8 +5,8 @@ use Rattle.craq_session.specs.Halves.{asked_by}
 use Rattle.craq_session.proofs.ConnectionStates.{continues_room}
 use Rattle.craq_session.proofs.phases.answered.Goals as goal
 
-pub end_turn-reply-requires : goal.end_turn-reply-requires
-end_turn-reply-requires c = c.requires.room c.in-Waits.request c.in-Waits.is
+pub end_turn-reply-requires-clause-room : goal.end_turn-reply-requires-clause-room
+end_turn-reply-requires-clause-room c = c.requires.room c.in-Waits.request c.in-Waits.is
 
 pub returns-in-Waits-clause-room : goal.returns-in-Waits-clause-room
 returns-in-Waits-clause-room c = continues_room c.next_phase.result c.args.codec.now c.next_phase.new.codec c.end_turn-reply.new.calls c.next_phase.ensures.continues

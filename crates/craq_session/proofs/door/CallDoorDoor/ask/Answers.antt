@@ -9,7 +9,7 @@ pub returns-in-Reported-clause-turn : goal.returns-in-Reported-clause-turn
 returns-in-Reported-clause-turn g c =
     let door = c.args.self.now in
     let begun = c.in-Reported.ensures in (
-      begun_turn (IsFull door.calls) (g.C.Backend.refuses door.backend) (g.C.Backend.tells door.backend) door.calls.policy door.calls.receipts.items
+      begun_turn (g.C.Backend.tells door.backend) (IsFull door.calls) (g.C.Backend.refuses door.backend) door.calls.policy door.calls.receipts.items
           c.begin_turn.new.calls.receipts.items c.args.message c.in-Reported.reply begun.room begun.begun.0,
       nothing begun.receipts refl,
       begun.policy,
@@ -27,7 +27,7 @@ returns-after-outcome-clause-turn g c =
     let same : c.call-outcome.new.self.calls ≡ c.begin_turn.new.calls = c.call-outcome.ensures.calls in
     let ends : EndsTurn request outcome c.begin_turn.new.calls.receipts.items reply after =
     subst (λ (x : DoorCalls). EndsTurn request outcome x.receipts.items reply after) same c.end_turn-reply.ensures.ends in (
-      halves_turn (IsFull door.calls) (g.C.Backend.refuses door.backend) (g.C.Backend.tells door.backend) door.calls.policy door.calls.receipts.items
+      halves_turn (g.C.Backend.tells door.backend) (IsFull door.calls) (g.C.Backend.refuses door.backend) door.calls.policy door.calls.receipts.items
           c.begin_turn.new.calls.receipts.items after c.args.message request outcome reply c.call-outcome.ensures.refusable begun.begun ends,
       call request outcome begun.begun.0 begun.begun.1 c.call-outcome.ensures.called
           (subst (λ (x : List Called). EndsTurn request outcome x reply after) begun.receipts ends),

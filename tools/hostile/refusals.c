@@ -10,7 +10,8 @@
      REFUSE_CALL=NAME   an ask for memory, or for a thread, counts only in a thread that wrote `begin NAME` to its standard error, until it
                         writes `end NAME` there: craq_node_tests does. Such marks, of any name, are not passed on
      REFUSE_TOLD=FILE   a line `refused` is added to FILE at each refusal, and one with the counts where a call of REFUSE_CALL ends, and
-                        where the program ends by `exit`, as craq_lab does and craqd does not
+                        where the program ends by `exit`, as craq_lab does and craqd does not. A line `smaller` follows `refused` where a
+                        block was to become smaller: without memory for that the program may keep the block as it is
 
    It finds the calls that run by frame pointers, which programs that are built without proofs keep, while C libraries do not: so it
    sees only calls that are not above a frame of a C library. Built by tools/hostile/refused.py. */
@@ -19,6 +20,7 @@
 #include <errno.h>
 #include <fcntl.h>
 #include <link.h>
+#include <malloc.h>
 #include <pthread.h>
 #include <stdatomic.h>
 #include <stdint.h>
@@ -28,6 +30,8 @@
 #include <unistd.h>
 
 enum { MOST_CALLS = 256, MOST_FRAMES = 4096, MOST_MARK = 128 };
+/* A block has fewer bytes to spare than this. */
+enum { SPARE = 40 };
 
 extern void *__libc_malloc(size_t), *__libc_calloc(size_t, size_t), *__libc_realloc(void *, size_t), *__libc_memalign(size_t, size_t);
 extern void *__libc_stack_end;
@@ -124,9 +128,14 @@ static int has_none(void) {
 
 void *malloc(size_t size) { return has_none() ? NULL : __libc_malloc(size); }
 void *calloc(size_t count, size_t size) { return has_none() ? NULL : __libc_calloc(count, size); }
-void *realloc(void *old, size_t size) { return has_none() ? NULL : __libc_realloc(old, size); }
 void *memalign(size_t to, size_t size) { return has_none() ? NULL : __libc_memalign(to, size); }
 void *aligned_alloc(size_t to, size_t size) { return has_none() ? NULL : __libc_memalign(to, size); }
+
+void *realloc(void *old, size_t size) {
+    if (!has_none()) return __libc_realloc(old, size);
+    if (old && malloc_usable_size(old) >= size + SPARE) tell("smaller\n");
+    return NULL;
+}
 
 int posix_memalign(void **made, size_t to, size_t size) {
     if (has_none()) return ENOMEM;

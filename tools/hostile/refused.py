@@ -54,6 +54,7 @@ class Under(NamedTuple):
     and of started threads that counted, as last reported. The library reports them `tells` times: at
     the end of each call of REFUSE_CALL, and at the end of a program that ends by `exit`. `before` is
     the number of calls that had ended at the first refusal, so the place of the refused call from 0.
+    `keeps_block` is true if a block was to become smaller then.
     """
 
     refused: bool
@@ -61,6 +62,7 @@ class Under(NamedTuple):
     threads: int
     tells: int
     before: int
+    keeps_block: bool
 
 
 def told_in(env):
@@ -74,7 +76,8 @@ def told_in(env):
     counts = re.findall(r"memory (\d+) threads (\d+)\n", text)
     memory, threads = map(int, counts[-1]) if counts else (0, 0)
     before = text.partition("refused\n")[0].count("\n")
-    return Under("refused\n" in text, memory, threads, len(counts), before)
+    keeps_block = "refused\nsmaller\n" in text
+    return Under("refused\n" in text, memory, threads, len(counts), before, keeps_block)
 
 
 def keeps_frames(program, start):

@@ -8,8 +8,10 @@ memory, and to say that the call ran out of memory. So a call that tries again b
 and so is one that takes its step all the same. The output with enough memory has the stored answers
 and explanation.
 
-Two kinds of calls may succeed in silence:
+Three kinds of calls may succeed in silence:
 
+- One that makes a block smaller, as a step whose messages go to a journal (`Desk::take`). Without
+  memory for that it keeps the block as it is. These count by themselves.
 - A step of a node that forgets settled entries (`--core list`). It puts off what it has no memory
   for: the entries that it appended are indexed later, settled ones are applied to the state later.
   So the refused call has to be one that appended an entry, or one that leaves settled entries
@@ -107,7 +109,9 @@ def is_silent(found, ample, call, kind, limit, under):
     """Returns true if the refused call succeeded in silence and was allowed to."""
     if not under.refused or limit != "memory" or found.errors or applied(found) != ample:
         return False
-    return call in POSTS or call in STEPS.values() and kind == PUTS_OFF and puts_off(found, under)
+    if call in POSTS or under.keeps_block:
+        return True
+    return call in STEPS.values() and kind == PUTS_OFF and puts_off(found, under)
 
 
 def fits(found, ample, call, kind, limit, under):
@@ -170,6 +174,7 @@ class Tried:
         self.checks, self.library, self.program = checks, library, program
         self.put_off = ranges(program, PUT_OFF)
         self.memory, self.threads, self.silent, self.quiet_steps = {}, {}, {}, 0
+        self.kept_blocks = 0
 
     def each(self, what, words, script, call):
         """Refuses each allocation and each thread of the calls of this name. Returns the output
@@ -206,7 +211,7 @@ class Tried:
 
     def runs(self, what, words, script, call, limit, ample, count):
         """Checks the runs up to the first that meets no refusal. Returns for each refused one
-        whether the call succeeded in silence."""
+        whether the call succeeded in silence, other than by keeping a block as it is."""
         runs = self.refused_in_turn(words, script, call, limit, count)
         first = next((at for at, (_, under) in enumerate(runs, 1) if not under.refused), None)
         told = [at for at, (found, _) in enumerate(runs, 1) if found.errors]
@@ -216,7 +221,9 @@ class Tried:
         for at, (found, under) in enumerate(runs, 1):
             is_fit = fits(found, ample, call, words[1], limit, under)
             self.checks.that(is_fit, f"{what} {at} of {count} refused: {differing(found, ample)}")
-        return [not found.errors for found, under in runs if under.refused]
+        refused = [(found, under) for found, under in runs if under.refused]
+        self.kept_blocks += sum(under.keeps_block and not found.errors for found, under in refused)
+        return [not (found.errors or under.keeps_block) for found, under in refused]
 
     def steps(self, what, words, script, call, silent, wanted):
         """Checks that the steps of the script succeed in silence as often as by `Core::step`, and as
@@ -271,5 +278,7 @@ def tried(checks, program):
                 f"each call allocates, and some steps do not: {memory}; {put_off}; {run.quiet_steps}")
     scripts, allocations = len(every_stop.stored()), sum(run.memory.values())
     return (f"{scripts} scripts, {allocations} refused allocations: {memory}; threads: {threads}; "
-            f"{put_off} put off indexing or applying entries ({is_seen}), {run.silent[POSTS[0]]} lost a "
-            f"message; {run.quiet_steps} stops and ignored messages allocate nothing")
+            f"{put_off} put off indexing or applying entries ({is_seen}), "
+            f"{run.kept_blocks} kept a block that was to become smaller, "
+            f"{run.silent[POSTS[0]]} lost a message; "
+            f"{run.quiet_steps} stops and ignored messages allocate nothing")

@@ -86,7 +86,8 @@ def stopped_tail(options, folder):
         sent(it, [one(1, read_request(1, 0, EVENTUAL, 0, key(0)))])
     process.stdin.write("stop a/3\n")
     process.stdin.flush()
-    process.stderr.readline()
+    while process.stderr.readline() != "a/3 stopped\n":
+        pass
     return server, connections
 
 

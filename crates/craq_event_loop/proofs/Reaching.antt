@@ -77,15 +77,15 @@ module _ {S T : Type 0} (P : ConnectionState T → Type 0) where
   so_idle : (now idle : ℕ) (s t : Slab (Connection S T)) → EndsIdle now idle s t → AllSo s → AllSo t
   so_idle now idle s t ends all key d here = idle_so now idle (get s key) d (get t key) (ends key) here (all key)
 
-module _ {T R : Type 0} (tells : List ℕ → Type 0) (refuses : Refusing) (submits : Token → Calling T) (finishes : Finishing T R) where
+module _ {T R : Type 0} (is_new : T → Type 0) (tells : List ℕ → Type 0) (refuses : Refusing) (submits : Token → Calling T) (finishes : Finishing T R) where
   abbrev Reachable : ConnectionState T → Type 0
-  Reachable state = IsReachable tells refuses submits finishes state
+  Reachable state = IsReachable is_new tells refuses submits finishes state
 
   same_reachable : (old new : ConnectionState T) → new ≡ old → Reachable old → Reachable new
   same_reachable old new same r = subst Reachable (sym same) r
 
   steps_reachable : (old new : ConnectionState T) (key before count after : ℕ) → TakesSteps tells refuses (under_key submits key) old before count new after → Reachable old → Reachable new
-  steps_reachable old new key before count after taken (first, read, written, reached) = (first, read, written, reaching.steps read written old new key before count after reached taken)
+  steps_reachable old new key before count after taken (first, fresh, read, written, reached) = (first, fresh, read, written, reaching.steps read written old new key before count after reached taken)
 
   round_reachable : (most : ℕ) (old new : ConnectionState T) (key before after : ℕ) → TakesRound most tells refuses (under_key submits key) old before new after → Reachable old → Reachable new
   round_reachable most old new key before after (rests count mid stepped taken last took same) r =
@@ -98,10 +98,10 @@ module _ {T R : Type 0} (tells : List ℕ → Type 0) (refuses : Refusing) (subm
 
   module _ {S : Type 0} where
     completed_reachable : (number : ℕ) (reply : R) (c d : Connection S T) → TakesCompletion finishes number reply c d → Reachable c.state → Reachable d.state
-    completed_reachable number reply c d takes (first, read, written, reached) =
+    completed_reachable number reply c d takes (first, fresh, read, written, reached) =
         elim (cases_eq number c.calls) [
-          | inl own ↦ (first, read, written, completes read written c.state d.state reply reached (takes.own own))
-          | inr another ↦ same_reachable c.state d.state (takes.another another) (first, read, written, reached)
+          | inl own ↦ (first, fresh, read, written, completes read written c.state d.state reply reached (takes.own own))
+          | inr another ↦ same_reachable c.state d.state (takes.another another) (first, fresh, read, written, reached)
         ]
 
     -- a connection that is under a key is the one that is said to be
@@ -109,7 +109,7 @@ module _ {T R : Type 0} (tells : List ℕ → Type 0) (refuses : Refusing) (subm
     is_it s key d e here there = cc
 
     delivered_reachable : (completion : Completion R) (s t : Slab (Connection S T)) → DeliversCompletion finishes completion s t
-        → AreReachable tells refuses submits finishes s → AreReachable tells refuses submits finishes t
+        → AreReachable is_new tells refuses submits finishes s → AreReachable is_new tells refuses submits finishes t
     delivered_reachable completion s t (delivers, vacant, others) =
         so_alone Reachable s t completion.token.connection (λ c d was here r.
         let took = delivers c was in
@@ -117,16 +117,16 @@ module _ {T R : Type 0} (tells : List ℕ → Type 0) (refuses : Refusing) (subm
         vacant others
 
     all_reachable : (completions : List (Completion R)) (s t : Slab (Connection S T)) → DeliversAll finishes completions s t
-        → AreReachable tells refuses submits finishes s → AreReachable tells refuses submits finishes t
-    all_reachable [] s t same r = subst (λ (x : Slab (Connection S T)). AreReachable tells refuses submits finishes x) (sym same) r
+        → AreReachable is_new tells refuses submits finishes s → AreReachable is_new tells refuses submits finishes t
+    all_reachable [] s t same r = subst (λ (x : Slab (Connection S T)). AreReachable is_new tells refuses submits finishes x) (sym same) r
     all_reachable (completion ∷ later) s t (mid, before, now) r = delivered_reachable completion mid t now (all_reachable later s mid before r)
 
     pub brought_reachable : (brings : List (Completion R) → Type 0) (s t : Slab (Connection S T)) → DeliversBrought finishes brings s t
-        → AreReachable tells refuses submits finishes s → AreReachable tells refuses submits finishes t
+        → AreReachable is_new tells refuses submits finishes s → AreReachable is_new tells refuses submits finishes t
     brought_reachable brings s t (completions, brought, delivered) r = all_reachable _ s t delivered r
 
     pub rounds_reachable : (keys : List ℕ) (s t : Slab (Connection S T)) → TakeRounds tells refuses submits keys s t
-        → AreReachable tells refuses submits finishes s → AreReachable tells refuses submits finishes t
+        → AreReachable is_new tells refuses submits finishes s → AreReachable is_new tells refuses submits finishes t
     rounds_reachable keys s t rounds =
         so_one_by_one Reachable (λ mid next key. HasRoundAt most_steps tells refuses submits mid next key)
         (λ s t key has c d was here r.
@@ -136,15 +136,15 @@ module _ {T R : Type 0} (tells : List ℕ → Type 0) (refuses : Refusing) (subm
 
     module _ (remaining contents : S → Option (List ℕ)) (is_over is_dry is_full : S → Type 0) where
       read_reachable : (c d : Connection S T) → HasRead remaining contents is_over is_dry is_full c d → Reachable c.state → Reachable d.state
-      read_reachable c d has (first, read, written, reached) =
-          (first, read ++ has.reads.0, written, receives read written has.reads.0 c.state d.state reached has.reads.2)
+      read_reachable c d has (first, fresh, read, written, reached) =
+          (first, fresh, read ++ has.reads.0, written, receives read written has.reads.0 c.state d.state reached has.reads.2)
 
       written_reachable : (c d : Connection S T) → HasWritten remaining contents is_over is_dry is_full c d → Reachable c.state → Reachable d.state
-      written_reachable c d has (first, read, written, reached) =
-          (first, read, written ++ has.writes.0, sends read written has.writes.0 c.state d.state reached has.writes.2)
+      written_reachable c d has (first, fresh, read, written, reached) =
+          (first, fresh, read, written ++ has.writes.0, sends read written has.writes.0 c.state d.state reached has.writes.2)
 
       pub reads_reachable : (keys : List ℕ) (s t : Slab (Connection S T)) → OneByOne (ReadsAt remaining contents is_over is_dry is_full) keys s t
-          → AreReachable tells refuses submits finishes s → AreReachable tells refuses submits finishes t
+          → AreReachable is_new tells refuses submits finishes s → AreReachable is_new tells refuses submits finishes t
       reads_reachable keys s t reads =
           so_one_by_one Reachable (ReadsAt remaining contents is_over is_dry is_full)
           (λ s t key has c d was here r.
@@ -165,66 +165,66 @@ module _ {T R : Type 0} (tells : List ℕ → Type 0) (refuses : Refusing) (subm
           left_reachable took.0 d (get t key) took.2 here (written_reachable c took.0 took.1 r)
 
       pub one_written_reachable : (s t : Slab (Connection S T)) (key : ℕ) → WritesAt remaining contents is_over is_dry is_full s t key → StaysVacant s t key → OthersStay s t key
-          → AreReachable tells refuses submits finishes s → AreReachable tells refuses submits finishes t
+          → AreReachable is_new tells refuses submits finishes s → AreReachable is_new tells refuses submits finishes t
       one_written_reachable s t key has vacant others = so_alone Reachable s t key (written_at s t key has) vacant others
 
       writes_reachable : (keys : List ℕ) (s t : Slab (Connection S T)) → OneByOne (WritesAt remaining contents is_over is_dry is_full) keys s t
-          → AreReachable tells refuses submits finishes s → AreReachable tells refuses submits finishes t
+          → AreReachable is_new tells refuses submits finishes s → AreReachable is_new tells refuses submits finishes t
       writes_reachable keys s t writes = so_one_by_one Reachable (WritesAt remaining contents is_over is_dry is_full) written_at keys s t writes
 
       pub served_reachable : (keys : List ℕ) (s t : Slab (Connection S T)) → Serves remaining contents is_over is_dry is_full tells refuses submits keys s t
-          → AreReachable tells refuses submits finishes s → AreReachable tells refuses submits finishes t
+          → AreReachable is_new tells refuses submits finishes s → AreReachable is_new tells refuses submits finishes t
       served_reachable keys s t (read, stepped, reads, rounds, writes) r =
           writes_reachable keys stepped t writes (rounds_reachable keys read stepped rounds (reads_reachable keys s read reads r))
 
     -- a connection that is dropped after its last bytes went
-    pub ended_reachable : (s : Slab (Connection S T)) (key : ℕ) (c d e : Connection S T) (a b : Option (List ℕ)) → AreReachable tells refuses submits finishes s → get s key ≡ Some c
+    pub ended_reachable : (s : Slab (Connection S T)) (key : ℕ) (c d e : Connection S T) (a b : Option (List ℕ)) → AreReachable is_new tells refuses submits finishes s → get s key ≡ Some c
         → Writes a b c.state d.state → get (with_value s key d) key ≡ Some e → Reachable e.state
     ended_reachable s key c d e a b all was writes here =
         let is : get (with_value s key d) key ≡ Some d = (Updates-with_value s key d (rw was refl)).changed in
         let one : d ≡ e = cc in
         let r = all key c was in
-        subst (λ (x : Connection S T). Reachable x.state) one (r.0, r.1, r.2 ++ writes.0, sends r.1 r.2 writes.0 c.state d.state r.3 writes.2)
+        subst (λ (x : Connection S T). Reachable x.state) one (r.0, r.1, r.2, r.3 ++ writes.0, sends r.2 r.3 writes.0 c.state d.state r.4 writes.2)
 
     -- a new connection
-    new_reachable : (c : Connection S T) → IsNew c → Reachable c.state
-    new_reachable c new = (c.state, [], [], begins new.nothing_came new.idle)
+    new_reachable : (c : Connection S T) → IsNew c → is_new c.state.session → Reachable c.state
+    new_reachable c new fresh = (c.state, fresh, [], [], begins new.nothing_came new.idle)
 
     module _ {P : Type 0} (m n : Members S T P) where
-      taken_reachable : (stream : S) (session : T) (slot receipts : ℕ) → TakesIn stream session slot receipts m n
-          → AreReachable tells refuses submits finishes m.connections → AreReachable tells refuses submits finishes n.connections
-      taken_reachable stream session slot receipts taken r key d here =
+      taken_reachable : (stream : S) (session : T) (slot receipts : ℕ) → is_new session → TakesIn stream session slot receipts m n
+          → AreReachable is_new tells refuses submits finishes m.connections → AreReachable is_new tells refuses submits finishes n.connections
+      taken_reachable stream session slot receipts fresh taken r key d here =
           elim (cases_eq key taken.key) [
             | inl same ↦ (
                 let there : get n.connections taken.key ≡ Some d = subst (λ (k : ℕ). get n.connections k ≡ Some d) same here in
                 let one : record (taken.connection) { busy = true } ≡ d = is_it n.connections taken.key d _ there taken.here in
-                subst (λ (x : Connection S T). Reachable x.state) one (new_reachable taken.connection taken.is_new)
+                subst (λ (x : Connection S T). Reachable x.state) one (new_reachable taken.connection taken.is_new (subst is_new (sym taken.came_as.same_session) fresh))
                 )
             | inr differs ↦ r key d (sym (taken.others key differs) ∙ here)
           ]
 
-      grown_reachable : ChangesRoom m n → AreReachable tells refuses submits finishes m.connections → AreReachable tells refuses submits finishes n.connections
+      grown_reachable : ChangesRoom m n → AreReachable is_new tells refuses submits finishes m.connections → AreReachable is_new tells refuses submits finishes n.connections
       grown_reachable grown r key d here = r key d (sym (grown.connections key) ∙ here)
 
-      pub either_reachable : {E : Type 0} (stream : S) (session : T) (slot receipts : ℕ) (came : Result (Unit {0}) E) → OnOk came (NoneForgotten m → TakesIn stream session slot receipts m n)
-          → OnErr came (ChangesRoom m n) → NoneForgotten m → AreReachable tells refuses submits finishes m.connections → AreReachable tells refuses submits finishes n.connections
-      either_reachable stream session slot receipts (Ok u) taken grown k r = taken_reachable stream session slot receipts (taken k) r
-      either_reachable stream session slot receipts (Err e) taken grown k r = grown_reachable grown r
+      pub either_reachable : {E : Type 0} (stream : S) (session : T) (slot receipts : ℕ) → is_new session → (came : Result (Unit {0}) E) → OnOk came (NoneForgotten m → TakesIn stream session slot receipts m n)
+          → OnErr came (ChangesRoom m n) → NoneForgotten m → AreReachable is_new tells refuses submits finishes m.connections → AreReachable is_new tells refuses submits finishes n.connections
+      either_reachable stream session slot receipts fresh (Ok u) taken grown k r = taken_reachable stream session slot receipts fresh (taken k) r
+      either_reachable stream session slot receipts fresh (Err e) taken grown k r = grown_reachable grown r
 
     pub looked_reachable : {P : Type 0} (m n : Members S T P) (now : ℕ) → (now ≢ m.now → EndsIdle now m.idle m.connections n.connections) → (now ≡ m.now → n ≡ m)
-        → AreReachable tells refuses submits finishes m.connections → AreReachable tells refuses submits finishes n.connections
+        → AreReachable is_new tells refuses submits finishes m.connections → AreReachable is_new tells refuses submits finishes n.connections
     looked_reachable {P = P} m n now ends same r =
         elim (cases_eq now m.now) [
-          | inl is ↦ subst (λ (x : Members S T P). AreReachable tells refuses submits finishes x.connections) (sym (same is)) r
+          | inl is ↦ subst (λ (x : Members S T P). AreReachable is_new tells refuses submits finishes x.connections) (sym (same is)) r
           | inr differs ↦ so_idle Reachable now m.idle m.connections n.connections (ends differs) r
         ]
 
     pub reported_reachable : (events : List Event) (s t : Slab (Connection S T)) → AllReported events s t
-        → AreReachable tells refuses submits finishes s → AreReachable tells refuses submits finishes t
+        → AreReachable is_new tells refuses submits finishes s → AreReachable is_new tells refuses submits finishes t
     reported_reachable events s t reported r = so_reported Reachable events s t reported r
 
     -- where there is no connection
-    pub none_reachable : {P : Type 0} (m : Members S T P) → HasNone m → AreReachable tells refuses submits finishes m.connections
+    pub none_reachable : {P : Type 0} (m : Members S T P) → HasNone m → AreReachable is_new tells refuses submits finishes m.connections
     none_reachable m none key c here =
         let found = (Contains-entries m.connections key c).1 here in
         absurd (omega (arith, found.1, length-entries m.connections, none.0))

@@ -24,16 +24,16 @@ pub data Reaches {T R : Type 0} (tells : List ℕ → Type 0) (refuses : Refusin
   completes : (read written : List ℕ) (old new : ConnectionState T) (reply : R) → Reaches tells refuses submits finishes first read written old
       → GetsCompletion finishes reply old new → Reaches tells refuses submits finishes first read written new
 
--- a new connection reaches the state
-abbrev pub IsReachable : {T R : Type 0} → (List ℕ → Type 0) → Refusing → (Token → Calling T) → Finishing T R → ConnectionState T → Type 0
-IsReachable {T} tells refuses submits finishes state =
-    (first : ConnectionState T) × (read : List ℕ) × (written : List ℕ) × Reaches tells refuses submits finishes first read written state
+-- a new connection reaches the state, whose session was new in this sense
+abbrev pub IsReachable : {T R : Type 0} → (T → Type 0) → (List ℕ → Type 0) → Refusing → (Token → Calling T) → Finishing T R → ConnectionState T → Type 0
+IsReachable {T} is_new tells refuses submits finishes state =
+    (first : ConnectionState T) × is_new first.session × (read : List ℕ) × (written : List ℕ) × Reaches tells refuses submits finishes first read written state
 
 -- the states of these connections are reachable
-abbrev pub AreReachable : {S T R : Type 0} → (List ℕ → Type 0) → Refusing → (Token → Calling T) → Finishing T R → Slab (Connection S T) → Type 0
-AreReachable {S} {T} tells refuses submits finishes connections =
-    (key : ℕ) (c : Connection S T) → get connections key ≡ Some c → IsReachable tells refuses submits finishes c.state
+abbrev pub AreReachable : {S T R : Type 0} → (T → Type 0) → (List ℕ → Type 0) → Refusing → (Token → Calling T) → Finishing T R → Slab (Connection S T) → Type 0
+AreReachable {S} {T} is_new tells refuses submits finishes connections =
+    (key : ℕ) (c : Connection S T) → get connections key ≡ Some c → IsReachable is_new tells refuses submits finishes c.state
 
 -- if the states of the connections were reachable before, they are afterwards
-abbrev pub StayReachable : {S T R : Type 0} → (List ℕ → Type 0) → Refusing → (Token → Calling T) → Finishing T R → Slab (Connection S T) → Slab (Connection S T) → Type 0
-StayReachable tells refuses submits finishes old new = AreReachable tells refuses submits finishes old → AreReachable tells refuses submits finishes new
+abbrev pub StayReachable : {S T R : Type 0} → (T → Type 0) → (List ℕ → Type 0) → Refusing → (Token → Calling T) → Finishing T R → Slab (Connection S T) → Slab (Connection S T) → Type 0
+StayReachable is_new tells refuses submits finishes old new = AreReachable is_new tells refuses submits finishes old → AreReachable is_new tells refuses submits finishes new

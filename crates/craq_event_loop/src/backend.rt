@@ -29,6 +29,9 @@ pub trait LoopBackend: AsyncBackend {
     /// Its answer to the question whether the event loop may sleep.
     ghost lets_sleep: { Self → Bool → Type 0 };
 
+    /// The sessions that are new: no call was made in them.
+    ghost is_new: { Self.Session → Type 0 };
+
     /// Appends the completions that have come, in their order.
     fn take_completions(&self, into: &mut Vec<Completion<Self::Reply>>)
         ensures { brings self.now into.old.items into.new.items };
@@ -36,8 +39,9 @@ pub trait LoopBackend: AsyncBackend {
     /// Takes the steps of the calls that were submitted under `Load::Light` and wait for that.
     fn run_queued(&self);
 
-    /// Returns the next connection that came to this event loop.
-    fn arrival(&self) -> Option<Arrival<Self::Session>>;
+    /// Returns the next connection that came to this event loop. Its session is new.
+    fn arrival(&self) -> Option<Arrival<Self::Session>>
+        ensures { IfSome result (λ a. is_new a.session) };
 
     /// Returns whether no more connections will come.
     fn is_over(&self) -> bool;
@@ -50,8 +54,8 @@ pub trait LoopBackend: AsyncBackend {
     /// Returns the seconds since some fixed moment. They never go back.
     fn seconds(&self) -> u64;
 
-    /// Takes the last state of the connection at this place, which has ended. A new connection
-    /// reached it (`Reaches`). There is none if the connection was not taken in.
+    /// Takes the last state of the connection at this place, which has ended. A new connection with
+    /// a new session reached it (`Reaches`). There is none if the connection was not taken in.
     fn ended(&self, slot: usize, receipts: usize, state: Option<ConnectionState<Self::Session>>)
-        requires { IfSome state (λ s. IsReachable (Self.tells self.now) (Self.refuses self.now) (called_by (Self.submits self.now) (Self.finishes self.now)) (Self.finishes self.now) s) };
+        requires { IfSome state (λ s. IsReachable is_new (Self.tells self.now) (Self.refuses self.now) (called_by (Self.submits self.now) (Self.finishes self.now)) (Self.finishes self.now) s) };
 }

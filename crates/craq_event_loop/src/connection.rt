@@ -140,7 +140,7 @@ impl<S: Socket + Drop, T: Drop> Connection<S, T> {
 
     /// Ends the connection and hands its last state to the backend.
     pub(crate) fn close<H: LoopBackend<Session = T>>(self, registry: &Registry, backend: &H)
-        requires { IsReachable (H.tells backend.now) (H.refuses backend.now) (called_by (H.submits backend.now) (H.finishes backend.now)) (H.finishes backend.now) self.state }
+        requires { IsReachable H.is_new (H.tells backend.now) (H.refuses backend.now) (called_by (H.submits backend.now) (H.finishes backend.now)) (H.finishes backend.now) self.state }
     {
         let Connection {
             stream,

@@ -149,7 +149,7 @@ fn give_at<S: Socket + Drop, H: LoopBackend>(
     key: usize,
     now: u64,
 ) -> bool
-    requires { AreReachable (H.tells backend.now) (H.refuses backend.now) (called_by (H.submits backend.now) (H.finishes backend.now)) (H.finishes backend.now) connections.old }
+    requires { AreReachable H.is_new (H.tells backend.now) (H.refuses backend.now) (called_by (H.submits backend.now) (H.finishes backend.now)) (H.finishes backend.now) connections.old }
     ensures writes { WritesAt S.remaining S.contents S.is_over S.is_dry S.is_full connections.old connections.new key }
     ensures vacant { StaysVacant connections.old connections.new key }
     ensures others { OthersStay connections.old connections.new key }
@@ -365,7 +365,7 @@ impl<S: Socket + Drop, T: Drop, P: Drop> Members<S, T, P> {
     /// removed exactly where it is done. Those that are still there and have work left then wait
     /// behind those that waited before, and no connection is busy.
     fn give_all<H: LoopBackend<Session = T>>(&mut self, registry: &Registry, backend: &H)
-        requires { AreReachable (H.tells backend.now) (H.refuses backend.now) (called_by (H.submits backend.now) (H.finishes backend.now)) (H.finishes backend.now) self.old.connections }
+        requires { AreReachable H.is_new (H.tells backend.now) (H.refuses backend.now) (called_by (H.submits backend.now) (H.finishes backend.now)) (H.finishes backend.now) self.old.connections }
         ensures writes { OneByOne (WritesAt S.remaining S.contents S.is_over S.is_dry S.is_full) self.old.busy.items self.old.connections self.new.connections }
         ensures listed { ListsMarked self.old.connections self.old.busy self.old.behind → ListsMarked self.new.connections self.new.busy self.new.behind }
         ensures behind { ListsMarked self.old.connections self.old.busy self.old.behind
@@ -386,7 +386,7 @@ impl<S: Socket + Drop, T: Drop, P: Drop> Members<S, T, P> {
     /// while, and the updates of few connections go through the chain together. Exactly those that
     /// are behind then wait, after those that waited before; and no connection is busy.
     fn step_all<H: LoopBackend<Session = T>>(&mut self, registry: &Registry, backend: &H)
-        requires { AreReachable (H.tells backend.now) (H.refuses backend.now) (called_by (H.submits backend.now) (H.finishes backend.now)) (H.finishes backend.now) self.old.connections }
+        requires { AreReachable H.is_new (H.tells backend.now) (H.refuses backend.now) (called_by (H.submits backend.now) (H.finishes backend.now)) (H.finishes backend.now) self.old.connections }
         ensures kept { NoneForgotten self.old → NoneForgotten self.new }
         ensures marks { MarksJustBehind self.new.connections self.old.busy.items }
         ensures behind { NoneForgotten self.old → self.new.behind.items ≡ self.old.behind.items ++ filter (λ key. is_marked (get self.new.connections key)) self.old.busy.items }
@@ -426,7 +426,7 @@ impl<S: Socket + Drop, T: Drop, P: Drop> Members<S, T, P> {
     )
         requires idle { self.old.busy.items ≡ [] }
         requires kept { NoneForgotten self.old }
-        requires reachable { AreReachable (H.tells backend.now) (H.refuses backend.now) (called_by (H.submits backend.now) (H.finishes backend.now)) (H.finishes backend.now) self.old.connections }
+        requires reachable { AreReachable H.is_new (H.tells backend.now) (H.refuses backend.now) (called_by (H.submits backend.now) (H.finishes backend.now)) (H.finishes backend.now) self.old.connections }
         ensures kept { NoneForgotten self.new }
         ensures marks { MarksJustBehind self.new.connections (take shares self.old.behind.items) }
         ensures behind { self.new.behind.items ≡ left_after shares (λ key. is_marked (get self.new.connections key)) self.old.behind.items }
@@ -538,7 +538,7 @@ impl<T: Drop, P: Drop> Members<ClientStream, T, P> {
         ensures kept { NoneForgotten self.old → NoneForgotten self.new }
         ensures stay { NoneForgotten self.old → PresentStay self.old.connections self.new.connections }
         ensures behind { NoneForgotten self.old → self.new.behind.items ≡ self.old.behind.items }
-        ensures reachable { NoneForgotten self.old → StayReachable (H.tells backend.now) (H.refuses backend.now) (called_by (H.submits backend.now) (H.finishes backend.now)) (H.finishes backend.now) self.old.connections self.new.connections }
+        ensures reachable { NoneForgotten self.old → StayReachable H.is_new (H.tells backend.now) (H.refuses backend.now) (called_by (H.submits backend.now) (H.finishes backend.now)) (H.finishes backend.now) self.old.connections self.new.connections }
     {
         for _ in 0..usize::MAX {
             let Some(arrival) = backend.arrival() else {
@@ -563,11 +563,11 @@ impl<T: Drop, P: Drop> Members<ClientStream, T, P> {
         shares: usize,
     )
         requires kept { NoneForgotten self.old }
-        requires reachable { AreReachable (H.tells backend.now) (H.refuses backend.now) (called_by (H.submits backend.now) (H.finishes backend.now)) (H.finishes backend.now) self.old.connections }
+        requires reachable { AreReachable H.is_new (H.tells backend.now) (H.refuses backend.now) (called_by (H.submits backend.now) (H.finishes backend.now)) (H.finishes backend.now) self.old.connections }
         ensures kept { NoneForgotten self.new }
         ensures none_busy { self.new.busy.items ≡ [] }
         ensures behind { MoveUp shares self.old.behind.items self.new.behind.items }
-        ensures reachable { AreReachable (H.tells backend.now) (H.refuses backend.now) (called_by (H.submits backend.now) (H.finishes backend.now)) (H.finishes backend.now) self.new.connections }
+        ensures reachable { AreReachable H.is_new (H.tells backend.now) (H.refuses backend.now) (called_by (H.submits backend.now) (H.finishes backend.now)) (H.finishes backend.now) self.new.connections }
     {
         // Completions first: what comes from then on keeps the thread awake, so no arrival is left
         // behind.
@@ -586,11 +586,11 @@ impl<T: Drop, P: Drop> Members<ClientStream, T, P> {
         shares: usize,
     )
         requires kept { NoneForgotten self.old }
-        requires reachable { AreReachable (H.tells backend.now) (H.refuses backend.now) (called_by (H.submits backend.now) (H.finishes backend.now)) (H.finishes backend.now) self.old.connections }
+        requires reachable { AreReachable H.is_new (H.tells backend.now) (H.refuses backend.now) (called_by (H.submits backend.now) (H.finishes backend.now)) (H.finishes backend.now) self.old.connections }
         ensures kept { NoneForgotten self.new }
         ensures none_busy { self.old.busy.items ≡ [] → self.new.busy.items ≡ [] }
         ensures behind { (self.new ≡ self.old) ⊎ (self.old.behind.items ≡ []) }
-        ensures reachable { AreReachable (H.tells backend.now) (H.refuses backend.now) (called_by (H.submits backend.now) (H.finishes backend.now)) (H.finishes backend.now) self.new.connections }
+        ensures reachable { AreReachable H.is_new (H.tells backend.now) (H.refuses backend.now) (called_by (H.submits backend.now) (H.finishes backend.now)) (H.finishes backend.now) self.new.connections }
     {
         if self.rests() {
             self.round(registry, backend, shares);
@@ -608,11 +608,11 @@ impl<T: Drop, P: Drop> Members<ClientStream, T, P> {
         shares: usize,
     )
         requires kept { NoneForgotten self.old }
-        requires reachable { AreReachable (H.tells backend.now) (H.refuses backend.now) (called_by (H.submits backend.now) (H.finishes backend.now)) (H.finishes backend.now) self.old.connections }
+        requires reachable { AreReachable H.is_new (H.tells backend.now) (H.refuses backend.now) (called_by (H.submits backend.now) (H.finishes backend.now)) (H.finishes backend.now) self.old.connections }
         ensures kept { NoneForgotten self.new }
         ensures none_busy { self.new.busy.items ≡ [] }
         ensures behind { MoveUp shares self.old.behind.items self.new.behind.items }
-        ensures reachable { AreReachable (H.tells backend.now) (H.refuses backend.now) (called_by (H.submits backend.now) (H.finishes backend.now)) (H.finishes backend.now) self.new.connections }
+        ensures reachable { AreReachable H.is_new (H.tells backend.now) (H.refuses backend.now) (called_by (H.submits backend.now) (H.finishes backend.now)) (H.finishes backend.now) self.new.connections }
     {
         self.looks = self.looks.saturating_add(1);
         if self.idle > 0 {

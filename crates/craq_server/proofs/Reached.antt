@@ -12,6 +12,7 @@ use Rattle.craq_session.specs.Asking.{Calling, HasCalled, IsOutcome, IsSubmitted
 use Rattle.craq_session.specs.ConnectionStates.{AnswersCall, Continues, Found, Holds, Took}
 use Rattle.craq_session.specs.Halves.{asked_by}
 use Rattle.craq_session.specs.Turns.{Refusing, for_memory, kept, name_of}
+use Rattle.craq_session.proofs.TwoHalves.{needs_no_call}
 use Rattle.craq_session.specs.declared.calls.DoorCalls.{DoorCalls}
 use Rattle.craq_session.specs.declared.call_request.CallRequest.{CallRequest}
 use Rattle.craq_session.specs.declared.asking.UnsentCall.{UnsentCall}
@@ -28,7 +29,7 @@ use Rattle.craq_event_loop.specs.Reaching as reaching
 use Rattle.craq_workers.specs.Stores.{Stored}
 use Rattle.craq_server.specs.Refusing.{RefusesServed}
 use Rattle.craq_server.specs.Status.{TellsStatus}
-use Rattle.craq_server.specs.Sessions.{AreWitnessed, Connected, FinishesCall, IsReachableAt, IsWitnessedConnection, IsWitnessedTurn, SeesMore, Submits}
+use Rattle.craq_server.specs.Sessions.{AreWitnessed, Connected, FinishesCall, IsNewSession, IsReachableAt, IsWitnessedConnection, IsWitnessedTurn, SeesMore, Submits}
 use Rattle.craq_server.proofs.Sessions.{sees_as_much}
 use Rattle.craq_server.proofs.Witnessing.{ended_witnessed, nothing_witnessed}
 
@@ -105,7 +106,8 @@ module _ (first : Connected) (read written : List ℕ) where
     holds = more read written stood.turns stood.holds;
     last = now;
     witnessed = witnessed_on first stood.last now stood.turns m reply stood.witnessed
-        (nothing_witnessed tells for_memory m stood.last now (kept c.policy c.receipts.items) d.receipts.items reply same stood.since turn);
+        (nothing_witnessed tells for_memory m stood.last now (kept c.policy c.receipts.items) d.receipts.items reply same stood.since
+        (needs_no_call tells (kept c.policy c.receipts.items) d.receipts.items m reply same turn) turn);
     since = continues_since r t u now continues;
   }
   took tells (phases.Asks m) r (steps.Calls unsent) t u c d now no_call h stood = absurd no_call
@@ -259,9 +261,10 @@ module _ (tells : List ℕ → Type 0) (refuses : Refusing) (first : ConnectionS
 
 -- so it is in each reachable state
 pub reachable_witnessed : (store : Stored) (state : ConnectionState Connected) → IsReachableAt store state
-    → (first : Connected) × (read : List ℕ) × (written : List ℕ) × IsWitnessedConnection first read written state
-reachable_witnessed store state (first, read, written, reached) = (
+    → (first : Connected) × IsNewSession first × (read : List ℕ) × (written : List ℕ) × IsWitnessedConnection first read written state
+reachable_witnessed store state (first, fresh, read, written, reached) = (
   first.session,
+  fresh,
   read,
   written,
   reached_witnessed (TellsStatus store) (λ node pass ask e. RefusesServed (length store.names) node ask e) first read written state reached,

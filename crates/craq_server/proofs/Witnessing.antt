@@ -4,6 +4,7 @@ use Rattle.std.proofs.lemmas.List.{append-nil, append_assoc, append_cancel_left}
 use mathlib.Core.List.{IsPrefix}
 use Rattle.craq_names.specs.declared.name.NodeName.{NodeName}
 use Rattle.craq_names.specs.declared.refusal.Refusal.{Refusal}
+use Rattle.craq_names.specs.declared.refusal.Refusal.TheVariants.{Memory}
 use Rattle.craq_model.specs.declared.ask.Ask.{Ask}
 use Rattle.craq_model.specs.declared.ask.Ask.TheVariants as asks
 use Rattle.craq_frames.specs.declared.ask.ClientMessage.{ClientMessage}
@@ -13,7 +14,7 @@ use Rattle.craq_frames.specs.declared.answer.ClientReply.TheVariants as replies
 use Rattle.craq_seat.specs.Calls.{Called}
 use Rattle.craq_session.specs.declared.call_request.CallRequest.{CallRequest}
 use Rattle.craq_session.specs.Asking.{HasCalled, IsSubmitted, directly, by_completion}
-use Rattle.craq_session.specs.Halves.{CanComeBack, EndsTurn, HasAsked, RefusesCall, asked_by, call, nothing, tells_none}
+use Rattle.craq_session.specs.Halves.{CanComeBack, EndsTurn, HasAsked, NeedsNoCall, RefusesCall, asked_by, call, nothing, tells_none}
 use Rattle.craq_session.specs.Turns.{Refusing, IsAnswered, IsCalled, MayReplyRefused, message_of, name_of}
 use Rattle.craq_store_history.specs.declared.entry.CallId.{CallId}
 use Rattle.craq_store_history.specs.declared.entry.Entry.{Entry}
@@ -21,7 +22,7 @@ use Rattle.craq_store_parts.specs.Recorded.{HasAccepted}
 use Rattle.craq_store_parts.specs.Witnessed.{IsWitnessed}
 use Rattle.craq_workers.specs.Untaken.{IsGivenUp, IsRefusedCall, LeavesOpen}
 use Rattle.craq_workers.proofs.Refusing.{refused_call}
-use Rattle.craq_server.specs.Sessions.{Connected, Finishes, FinishesCall, IsRefusedMessage, IsRefusedRequest, IsWitnessedReply, IsWitnessedTurn, MakesCall, SeesMore, Submits}
+use Rattle.craq_server.specs.Sessions.{Connected, Finishes, FinishesCall, HasMade, IsRefusedMessage, IsRefusedRequest, IsWitnessedReply, IsWitnessedTurn, MakesCall, RefusesFirst, SeesMore, Submits}
 use Rattle.craq_server.proofs.Sessions.{sees_as_much}
 
 prefix_on : (a b c : List Entry) → IsPrefix a b → IsPrefix b c → IsPrefix a c
@@ -60,10 +61,17 @@ module _ (q : CallRequest) (old mid new : Connected) where
   made_finished (Ok reply) c m f = made_answered reply c m f
   made_finished (Err came) c m f = absurd f
 
+  -- a call that was made
+  made_call : MakesCall old q.node q.ask mid → SeesMore mid new → HasMade old q.node q.ask new
+  made_call m sees = record { call = m.0; caller = m.2; mid = mid.seen; made = m.3; later = sees.1 }
+
+  made_answered_call : (reply : Result Called Refusal) (c : Called) → MakesCall old q.node q.ask mid → Finishes mid q.node reply (Ok c) new → HasMade old q.node q.ask new
+  made_answered_call reply c m f = made_call m (finished_sees reply (Ok c) f)
+
   -- a call that was made and given up
   given_up : (e : Refusal) → MakesCall old q.node q.ask mid → SeesMore mid new → LeavesOpen e ⊎ ((call : CallId) × (mid.call ≡ Some call) × IsGivenUp new.seen call e)
-      → LeavesOpen e ⊎ IsRefusedCall old.client old.seen q.node q.ask e new.seen
-  given_up e m sees (inl leaves) = inl leaves
+      → (LeavesOpen e × HasMade old q.node q.ask new) ⊎ IsRefusedCall old.client old.seen q.node q.ask e new.seen
+  given_up e m sees (inl leaves) = inl (leaves, made_call m sees)
   given_up e m sees (inr up) =
       let made : mid.call ≡ Some m.0 = m.1 in
       let under_way : mid.call ≡ Some up.0 = up.1 in
@@ -71,18 +79,18 @@ module _ (q : CallRequest) (old mid new : Connected) where
       inr (refused_call old.client old.seen mid.seen new.seen q.node q.ask m.0 m.2 m.3 sees.1 e (subst (λ (x : CallId). IsGivenUp new.seen x e) same up.2))
 
   made_refused : (reply : Result Called Refusal) (e : Refusal) → MakesCall old q.node q.ask mid → Finishes mid q.node reply (Err e) new
-      → LeavesOpen e ⊎ IsRefusedCall old.client old.seen q.node q.ask e new.seen
-  made_refused (Ok reply) e m f = inl (subst (λ (x : Refusal). LeavesOpen x) (sym f.0) tt)
+      → (LeavesOpen e × HasMade old q.node q.ask new) ⊎ IsRefusedCall old.client old.seen q.node q.ask e new.seen
+  made_refused (Ok reply) e m f = inl (subst (λ (x : Refusal). LeavesOpen x) (sym f.0) tt, made_call m f.1)
   made_refused (Err came) e m f = given_up e m f.sees f.untaken
 
 module _ (q : CallRequest) (old new : Connected) where
   -- a call sees more, whatever its outcome
-  unmade_sees : (mid : Connected) → mid.client ≡ old.client → mid.seen ≡ old.seen → new ≡ mid → SeesMore old new
-  unmade_sees mid client seen same = subst (λ (x : Connected). SeesMore old x) (sym same) (sees_as_much old mid client seen)
+  unmade_sees : new ≡ old → SeesMore old new
+  unmade_sees same = subst (λ (x : Connected). SeesMore old x) (sym same) (sees_as_much old old refl refl)
 
   submitted_sees : (outcome : Result Called Refusal) → IsSubmitted Submits FinishesCall q old (Some outcome) new → SeesMore old new
   submitted_sees outcome (Ok reply, mid, made, finished) = sees_on old mid new made.1 (finished_sees q old mid new reply outcome finished)
-  submitted_sees outcome (Err e, mid, unmade, finished) = unmade_sees mid unmade.0 unmade.1 finished.1
+  submitted_sees outcome (Err e, mid, unmade, finished) = unmade_sees (finished.1 ∙ unmade.1)
 
   called_sees : (outcome : Result Called Refusal) → HasCalled Submits FinishesCall q old outcome new → SeesMore old new
   called_sees outcome (directly submitted) = submitted_sees outcome submitted
@@ -98,27 +106,36 @@ module _ (q : CallRequest) (old new : Connected) where
   called_witnessed c (by_completion mid reply submitted finished) = made_finished q old mid new reply c submitted.0 finished.0
 
   -- a call that is refused
-  refused_so : (e : Refusal) → LeavesOpen e ⊎ IsRefusedCall old.client old.seen q.node q.ask e new.seen → IsRefusedRequest old q.node q.ask e new
-  refused_so e (inl leaves) = inl leaves
-  refused_so e (inr up) = inr (inr up)
+  refused_so : (e : Refusal) → (LeavesOpen e × HasMade old q.node q.ask new) ⊎ IsRefusedCall old.client old.seen q.node q.ask e new.seen → IsRefusedRequest old q.node q.ask e new
+  refused_so e h = inr h
 
   submitted_refused : (e : Refusal) → IsSubmitted Submits FinishesCall q old (Some (Err e)) new → IsRefusedRequest old q.node q.ask e new
   submitted_refused e (Ok reply, mid, made, finished) = refused_so e (made_refused q old mid new reply e made.0 finished)
-  submitted_refused e (Err came, mid, unmade, finished) = inr (inl (ap (λ (s : Connected). s.seen) finished.1 ∙ unmade.1))
+  submitted_refused e (Err came, mid, unmade, finished) =
+      let is : e ≡ came = (let same : Err e ≡ Err came = finished.0 in cc) in
+      inl (subst (λ (x : Refusal). RefusesFirst x) (sym is) unmade.0, finished.1 ∙ unmade.1)
 
   called_refused : (e : Refusal) → HasCalled Submits FinishesCall q old (Err e) new → IsRefusedRequest old q.node q.ask e new
   called_refused e (directly submitted) = submitted_refused e submitted
   called_refused e (by_completion mid reply submitted finished) = refused_so e (made_refused q old mid new reply e submitted.0 finished.0)
 
   -- a refusal that replaces an answer
-  comes_back : (e : Refusal) → CanComeBack e → IsRefusedRequest old q.node q.ask e new
-  comes_back e (inl is) = inl (subst (λ (x : Refusal). LeavesOpen x) (sym is) tt)
-  comes_back e (inr is) = inl (subst (λ (x : Refusal). LeavesOpen x) (sym is) tt)
+  submitted_made : (c : Called) → IsSubmitted Submits FinishesCall q old (Some (Ok c)) new → HasMade old q.node q.ask new
+  submitted_made c (Ok reply, mid, made, finished) = made_answered_call q old mid new reply c made.0 finished
+  submitted_made c (Err e, mid, made, finished) = (let no : Ok c ≡ Err e = finished.0 in cc)
+
+  called_made : (c : Called) → HasCalled Submits FinishesCall q old (Ok c) new → HasMade old q.node q.ask new
+  called_made c (directly submitted) = submitted_made c submitted
+  called_made c (by_completion mid reply submitted finished) = made_answered_call q old mid new reply c submitted.0 finished.0
+
+  came_back : (e : Refusal) → CanComeBack e → LeavesOpen e
+  came_back e (inl is) = subst (λ (x : Refusal). LeavesOpen x) (sym is) tt
+  came_back e (inr is) = subst (λ (x : Refusal). LeavesOpen x) (sym is) tt
 
   -- the refusal that replaces an outcome
   outcome_refused : (outcome : Result Called Refusal) (e : Refusal) → HasCalled Submits FinishesCall q old outcome new → RefusesCall q outcome e → IsRefusedRequest old q.node q.ask e new
   outcome_refused (Err came) e has is = subst (λ (x : Refusal). IsRefusedRequest old q.node q.ask x new) (sym is) (called_refused came has)
-  outcome_refused (Ok c) e has is = comes_back e is.0
+  outcome_refused (Ok c) e has is = inr (inl (came_back e is.0, called_made c has))
 
   -- that of a message, by its request
   message_refused : (node pass : ℕ) (ask : Ask) (e : Refusal) → IsRefusedRequest old (name_of node ask) ask e new → IsRefusedMessage old (message_of node pass ask) e new
@@ -152,7 +169,7 @@ module _ (q : CallRequest) (old new : Connected) where
     pub ended_witnessed : (reply : ClientReply) → EndsTurn q outcome receipts reply after → IsWitnessedTurn old (asked_by q) reply new
     ended_witnessed (replies.Update pass reply) ends = (called_sees outcome has, own_witnessed (replies.Update pass reply) ends.answered ends.own)
     ended_witnessed (replies.Read pass version value) ends = (called_sees outcome has, own_witnessed (replies.Read pass version value) ends.answered ends.own)
-    ended_witnessed (replies.Status text) ends = called_sees outcome has
+    ended_witnessed (replies.Status text) ends = absurd ends.answered.1
     ended_witnessed (replies.Refused refusal) ends = (called_sees outcome has, refusal_witnessed refusal ends.answered.0)
 
 no_receipt : (receipts after : List Called) (c : Called) → after ≡ receipts → after ≡ receipts ++ c ∷ [] → ⊥
@@ -162,19 +179,23 @@ module _ (tells : List ℕ → Type 0) (refuses : Refusing) (message : ClientMes
   same_sees : new ≡ old → SeesMore old new
   same_sees same = subst (λ (x : Connected). SeesMore old x) (sym same) (refl, ([], append-nil old.seen))
 
-  nothing_refused : (m : ClientMessage) (e : Refusal) → new ≡ old → IsRefusedMessage old m e new
-  nothing_refused (messages.Update node pass update) e same = inr (inl (ap (λ (s : Connected). s.seen) same))
-  nothing_refused (messages.Read node pass mode object) e same = inr (inl (ap (λ (s : Connected). s.seen) same))
-  nothing_refused messages.Status e same = tt
+  for_memory_refused : (m : ClientMessage) (e : Refusal) → new ≡ old → e ≡ Memory → IsRefusedMessage old m e new
+  for_memory_refused (messages.Update node pass update) e same is = inl (inr (inl is), same)
+  for_memory_refused (messages.Read node pass mode object) e same is = inl (inr (inl is), same)
+  for_memory_refused messages.Status e same is = same
 
-  pub nothing_witnessed : (reply : ClientReply) → after ≡ receipts → new ≡ old → IsAnswered tells refuses receipts message reply after → IsWitnessedTurn old message reply new
-  nothing_witnessed (replies.Update pass reply) none same answered = absurd (no_receipt receipts after answered.0 none answered.1.1)
-  nothing_witnessed (replies.Read pass version value) none same answered = absurd (no_receipt receipts after answered.0 none answered.1.1)
-  nothing_witnessed (replies.Status text) none same answered = same_sees same
-  nothing_witnessed (replies.Refused refusal) none same answered = (same_sees same, nothing_refused message refusal same)
+  nothing_refused : (e : Refusal) → new ≡ old → NeedsNoCall message (replies.Refused e) → IsRefusedMessage old message e new
+  nothing_refused e same (inl is) = subst (λ (x : ClientMessage). IsRefusedMessage old x e new) (sym is) same
+  nothing_refused e same (inr is) = for_memory_refused message e same cc
+
+  pub nothing_witnessed : (reply : ClientReply) → after ≡ receipts → new ≡ old → NeedsNoCall message reply → IsAnswered tells refuses receipts message reply after → IsWitnessedTurn old message reply new
+  nothing_witnessed (replies.Update pass reply) none same unneeded answered = absurd (no_receipt receipts after answered.0 none answered.1.1)
+  nothing_witnessed (replies.Read pass version value) none same unneeded answered = absurd (no_receipt receipts after answered.0 none answered.1.1)
+  nothing_witnessed (replies.Status text) none same unneeded answered = same
+  nothing_witnessed (replies.Refused refusal) none same unneeded answered = (same_sees same, nothing_refused refusal same unneeded)
 
   -- a turn of a request handler
   pub turn_witnessed : (reply : ClientReply) → HasAsked Submits FinishesCall message old receipts reply after new → IsAnswered tells refuses receipts message reply after → IsWitnessedTurn old message reply new
-  turn_witnessed reply (nothing none same) answered = nothing_witnessed reply none same answered
+  turn_witnessed reply (nothing none same unneeded) answered = nothing_witnessed reply none same unneeded answered
   turn_witnessed reply (call q outcome asks named has ends) answered =
       subst (λ (x : ClientMessage). IsWitnessedTurn old x reply new) (sym asks) (ended_witnessed q old new outcome receipts after named has reply ends)

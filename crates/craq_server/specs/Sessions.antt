@@ -1,9 +1,9 @@
 -- The session of a connection of a served store, and the calls that it makes and finishes.
-use Rattle.std.specs.Prelude.{◌≡◌, ◌≢◌, ◌⊎◌, ⊤, ℕ, List, [], ◌∷◌, Option, Some, IsSome, Result, Ok, Err, length}
+use Rattle.std.specs.Prelude.{◌≡◌, ◌≢◌, ◌⊎◌, ℕ, List, [], ◌∷◌, Option, None, Some, IsSome, Result, Ok, Err, length}
 use mathlib.Core.List.{IsPrefix}
 use Rattle.craq_names.specs.declared.name.NodeName.{NodeName}
 use Rattle.craq_names.specs.declared.refusal.Refusal.{Refusal}
-use Rattle.craq_names.specs.declared.refusal.Refusal.TheVariants.{Closed}
+use Rattle.craq_names.specs.declared.refusal.Refusal.TheVariants.{Closed, Exhausted, Memory, UnknownChain}
 use Rattle.craq_model.specs.declared.ask.Ask.{Ask}
 use Rattle.craq_model.specs.declared.ask.Ask.TheVariants as asks
 use Rattle.craq_frames.specs.declared.ask.ClientMessage.{ClientMessage}
@@ -38,6 +38,10 @@ pub record Connected : Type 0 where
   pub seen : List Entry
   pub call : Option CallId
 
+-- the session is new: it has seen nothing, and no call is under way
+abbrev pub IsNewSession : Connected → Type 0
+IsNewSession s = (s.seen ≡ []) × (s.call ≡ None)
+
 -- it is the session of the same client, which has seen at least as much
 abbrev pub SeesMore : Connected → Connected → Type 0
 SeesMore old new = (new.client ≡ old.client) × IsPrefix old.seen new.seen
@@ -46,9 +50,14 @@ SeesMore old new = (new.client ≡ old.client) × IsPrefix old.seen new.seen
 abbrev pub MakesCall : Connected → NodeName → Ask → Connected → Type 0
 MakesCall old node ask new = (call : CallId) × (new.call ≡ Some call) × (call.client ≡ old.client) × IsMade old.seen call node ask new.seen
 
--- a call was submitted; or it was refused before it was made, and the session has seen what it had
+-- the refusals of a request for which no call is made: the store has no such chain, memory is out, or its pass is too far above those in
+-- earlier replies, or the session made too many calls
+abbrev pub RefusesFirst : Refusal → Type 0
+RefusesFirst e = (e ≡ UnknownChain) ⊎ (e ≡ Memory) ⊎ (e ≡ Exhausted)
+
+-- a call was submitted; or it was refused before it was made, and the session is as it was
 abbrev pub Submits : Connected → CallRequest → Option (Result (Result Called Refusal) Refusal) → Connected → Type 0
-Submits old q (Some (Err e)) new = (new.client ≡ old.client) × (new.seen ≡ old.seen)
+Submits old q (Some (Err e)) new = RefusesFirst e × (new ≡ old)
 Submits old q came new = MakesCall old q.node q.ask new × SeesMore old new
 
 -- the session gave up its call that was under way, which was refused so, and this refusal is reported: it, or Closed. It leaves open
@@ -88,30 +97,39 @@ pub record IsWitnessedReply (old : Connected) (message : ClientMessage) (reply :
   pub replies : IsReplyOf message reply receipt
   pub witnessed : IsWitnessed old.client old.seen node ask receipt.answer receipt new.seen
 
--- a request of a connection is refused so: it may have been taken; or no call was made of it; or no step accepts its call, in the history
--- that the session has seen since or in any that goes on from it, and its node refused it by its rules or was not asked
+-- the connection made a call of this request at this node, after all that it had seen, and has seen that
+pub record HasMade (old : Connected) (node : NodeName) (ask : Ask) (new : Connected) : Type 0 where
+  pub call : CallId
+  pub caller : call.client ≡ old.client
+  pub mid : List Entry
+  pub made : IsMade old.seen call node ask mid
+  pub later : IsPrefix mid new.seen
+
+-- a request of a connection is refused so: no call was made of it, and its session is as it was; or its call may have been taken; or no
+-- step accepts its call, in the history that the session has seen since or in any that goes on from it, and its node refused it by its
+-- rules or was not asked
 abbrev pub IsRefusedRequest : Connected → NodeName → Ask → Refusal → Connected → Type 0
 IsRefusedRequest old node ask e new =
-    LeavesOpen e ⊎ (new.seen ≡ old.seen) ⊎ IsRefusedCall old.client old.seen node ask e new.seen
+    (RefusesFirst e × (new ≡ old)) ⊎ (LeavesOpen e × HasMade old node ask new) ⊎ IsRefusedCall old.client old.seen node ask e new.seen
 
--- so is a message that is an update or a read
+-- so is a message that is an update or a read; where a status is refused, its session is as it was
 abbrev pub IsRefusedMessage : Connected → ClientMessage → Refusal → Connected → Type 0
 IsRefusedMessage old (messages.Update node pass update) e new = IsRefusedRequest old (name_of node (asks.Update update)) (asks.Update update) e new
 IsRefusedMessage old (messages.Read node pass mode object) e new = IsRefusedRequest old (name_of node (asks.Read mode object)) (asks.Read mode object) e new
-IsRefusedMessage old messages.Status e new = ⊤
+IsRefusedMessage old messages.Status e new = new ≡ old
 
--- a turn of a connection: its session sees more; a reply to an update or to a read is witnessed; and a refusal of one says whether it may
--- have been taken
+-- a turn of a connection: its session sees more; a reply to an update or to a read is witnessed; a refusal of one says whether it may
+-- have been taken; and after the reply to a status its session is as it was
 abbrev pub IsWitnessedTurn : Connected → ClientMessage → ClientReply → Connected → Type 0
 IsWitnessedTurn old message (replies.Update pass reply) new = SeesMore old new × IsWitnessedReply old message (replies.Update pass reply) new
 IsWitnessedTurn old message (replies.Read pass version value) new = SeesMore old new × IsWitnessedReply old message (replies.Read pass version value) new
 IsWitnessedTurn old message (replies.Refused e) new = SeesMore old new × IsRefusedMessage old message e new
-IsWitnessedTurn old message (replies.Status text) new = SeesMore old new
+IsWitnessedTurn old message (replies.Status text) new = new ≡ old
 
 -- a new connection of an event loop reaches the state, at a server of this store
 abbrev pub IsReachableAt : Stored → ConnectionState Connected → Type 0
 IsReachableAt store state =
-    IsReachable (TellsStatus store) (λ node pass ask e. RefusesServed (length store.names) node ask e) (called_by (λ (token : Token). Submits) FinishesCall) FinishesCall state
+    IsReachable IsNewSession (TellsStatus store) (λ node pass ask e. RefusesServed (length store.names) node ask e) (called_by (λ (token : Token). Submits) FinishesCall) FinishesCall state
 
 -- these turns are witnessed one after another, from the first session to the last
 abbrev pub AreWitnessed : Connected → History → Connected → Type 0

@@ -1,6 +1,7 @@
 //! `accept`: serves the connections of a listener to a store, each on a thread of its own.
-//! `accept_with` serves them as a `Serving` says, also by a few threads (`contexts`).
+//! `accept_with` serves them as a `Serving` says, also by a few threads (`io_threads`).
 ghost use Rattle.std.specs.Prelude.{◌≡◌, ◌⊎◌, [], false, IfErr, IfOk};
+ghost use Rattle.craq_server.specs.Sessions.{IsNewSession};
 
 use crate::connections::Connections;
 use crate::counters::Share;
@@ -240,7 +241,9 @@ where
 
     /// Opens the session of a new connection, which has seen nothing of the store's history yet.
     /// Fails if 2^64 - 1 sessions were opened.
-    pub(crate) fn open_session(&self) -> Result<StoreSession<C>, AllocError> {
+    pub(crate) fn open_session(&self) -> Result<StoreSession<C>, AllocError>
+        ensures { IfOk result (λ s. IsNewSession s) }
+    {
         Ok(StoreSession::new(self.store.open_session(&self.rt)?))
     }
 

@@ -1,9 +1,10 @@
 //! `EventLoops`: the event loops of a server, made before serving starts. And serving by a few
 //! threads, an event loop each; called by `accepting`.
 ghost use Rattle.std.specs.Prelude.{◌≡◌, ◌==◌, [], IfOk, IfSome, length, if◌then◌else◌};
-ghost use Rattle.craq_server.specs.Sessions.{IsReachableAt};
+ghost use Rattle.craq_server.specs.Sessions.{IsNewSession, IsReachableAt};
 
 use crate::accepting::{Next, Server, Serving, Taken};
+use crate::incoming::Incoming;
 use crate::runtime::ServerRuntime;
 use crate::served_store::{ServedStore, StoreOutcome};
 use crate::store_session::StoreSession;
@@ -28,7 +29,7 @@ struct IoContext<'s, 'a, R: Wait, C: Core + Named, G: Gate> {
     server: &'s Server<'a, R, C, G>,
     backend: ServedStore<'s, R, C, G>,
     /// The connections that were handed to the thread and are not taken in yet.
-    inbox: Mutex<Vec<Arrival<StoreSession<C>>>>,
+    inbox: Mutex<Vec<Incoming<C>>>,
     /// True where no more connections are handed to it.
     over: AtomicBool,
     /// The event loop, until the thread begins.
@@ -106,6 +107,9 @@ where
     G: Gate + Send + Sync + 'static,
 {
     ghost use Rattle.std.specs.Prelude.{⊤};
+    ghost use Rattle.craq_server.specs.Sessions.{IsNewSession};
+
+    ghost is_new = { IsNewSession };
 
     ghost brings = { λ context old new. ⊤ };
 
@@ -120,7 +124,8 @@ where
     }
 
     fn arrival(&self) -> Option<Arrival<StoreSession<C>>> {
-        self.inbox.lock(&self.server.rt).pop()
+        let incoming = self.inbox.lock(&self.server.rt).pop()?;
+        Some(incoming.into_arrival())
     }
 
     fn is_over(&self) -> bool {
@@ -188,7 +193,9 @@ where
             slot,
             receipts,
         };
-        self.inbox.lock(&self.server.rt).push(arrival)?;
+        self.inbox
+            .lock(&self.server.rt)
+            .push(Incoming::new(arrival))?;
         self.backend.completions.nudge(&self.server.rt);
         Ok(())
     }

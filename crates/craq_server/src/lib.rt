@@ -6,6 +6,7 @@ mod accepting;
 mod connection_slots;
 mod connections;
 mod counters;
+mod incoming;
 mod io_threads;
 mod laws;
 mod listening;

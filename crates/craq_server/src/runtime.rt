@@ -1,5 +1,5 @@
-//! `ServerRuntime`: the handles that a server needs; for `accepting`, `contexts` and programs that
-//! serve.
+//! `ServerRuntime`: the handles that a server needs; for `accepting`, `io_threads` and programs
+//! that serve.
 use std::sync::Wait;
 use std::thread::Threads;
 use std::time::Clock;

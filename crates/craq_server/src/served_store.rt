@@ -5,7 +5,7 @@ ghost use Rattle.craq_completions.specs.Refused.{CanRefuse};
 ghost use Rattle.craq_session.specs.Asking.{at_once};
 ghost use Rattle.craq_session.specs.Turns.{kept};
 ghost use Rattle.craq_server.specs.Refusing.{RefusesServed};
-ghost use Rattle.craq_server.specs.Sessions.{Connected, Finishes, IsReachableAt, IsWitnessedConnection, Submits};
+ghost use Rattle.craq_server.specs.Sessions.{Connected, Finishes, IsNewSession, IsReachableAt, IsWitnessedConnection, Submits};
 ghost use Rattle.craq_server.specs.Status.{TellsStatus};
 
 use crate::counters::Share;
@@ -117,15 +117,16 @@ where
         }
     }
 
-    /// Takes the receipts of a connection that has ended, where they are kept. A new connection
-    /// reached its state. **Each reply that was written on it to an update or to a read is witnessed
-    /// in the store's history**, after all that the connection had seen before: its turns are
-    /// witnessed, from its first byte to its last.
+    /// Takes the receipts of a connection that has ended, where they are kept. A new connection with
+    /// a new session reached its state. **Each call of its session is in one of its turns, and each
+    /// reply to an update or a read is witnessed in the store's history**, after all that the
+    /// connection had seen before. The bytes of these turns came and went on it
+    /// (`craq_event_loop`).
     #[tactic(auto, using(crate::proofs::Reached::reachable_witnessed))]
     pub(crate) fn end_connection(&self, state: ConnectionState<StoreSession<C>>) -> Vec<CallReceipt>
         requires { IsReachableAt self.now.store.now state }
         ensures receipts { result.items ≡ kept state.calls.policy state.calls.receipts.items }
-        ensures witnessed { (first : Connected) × (read : List ℕ) × (written : List ℕ) × IsWitnessedConnection first read written state }
+        ensures witnessed { (first : Connected) × IsNewSession first × (read : List ℕ) × (written : List ℕ) × IsWitnessedConnection first read written state }
     {
         state.into_receipts()
     }

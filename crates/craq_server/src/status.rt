@@ -1,4 +1,4 @@
-//! `status_text`: the chains of a store and their members as JSON; public, and for `door`.
+//! `status_text`: the chains of a store and their members as JSON; public, and for `served_store`.
 ghost use Rattle.std.specs.Prelude.{◌≡◌, IfOk, map, string_bytes};
 ghost use Rattle.serde_json.specs.View.{view};
 ghost use Rattle.craq_server.specs.Status.{members_data, chain_data, status_data, status_text};

@@ -1,5 +1,6 @@
 -- A turn in two halves is a turn.
-use Rattle.std.proofs.Common.{◌≡◌, ◌⊎◌, ℕ, List, Result, inl, inr, sym, subst}
+use Rattle.std.proofs.Common.{◌≡◌, ◌⊎◌, ◌∙◌, ℕ, List, [], ◌∷◌, ◌++◌, Result, inl, inr, refl, sym, ap, subst}
+use Rattle.std.proofs.lemmas.List.{append-nil, append_cancel_left}
 use Rattle.craq_names.specs.declared.name.NodeName.{NodeName}
 use Rattle.craq_names.specs.declared.refusal.Refusal.{Refusal}
 use Rattle.craq_model.specs.declared.ask.Ask.{Ask}
@@ -12,8 +13,20 @@ use Rattle.craq_seat.specs.Calls.{Called}
 use Rattle.craq_session.specs.declared.calls.ReceiptPolicy.{ReceiptPolicy}
 use Rattle.craq_session.specs.declared.call_request.CallRequest.{CallRequest}
 use Rattle.craq_session.specs.declared.call_request.Begun.TheVariants as begun
-use Rattle.craq_session.specs.Halves.{BeginsTurn, EndsTurn, IsRefusable, RefusesCall, asked_by, tells_none}
+use Rattle.craq_session.specs.Halves.{BeginsTurn, EndsTurn, IsRefusable, NeedsNoCall, RefusesCall, asked_by, tells_none}
 use Rattle.craq_session.specs.Turns.{Refusing, MayReplyRefused, IsAnswered, IsTurn, for_memory, kept, message_of, name_of, or_memory_where}
+
+no_receipt : (old new : List Called) (c : Called) → new ≡ old → new ≡ old ++ c ∷ [] → ⊥
+no_receipt old new c same more = (let empty : [] ≡ c ∷ [] = append_cancel_left old [] (c ∷ []) (append-nil old ∙ (sym same ∙ more)) in cc)
+
+-- a turn that is over before a call, without one
+pub needs_no_call : (tells : List ℕ → Type 0) (old new : List Called) (m : ClientMessage) (reply : ClientReply) → new ≡ old → IsAnswered tells for_memory old m reply new → NeedsNoCall m reply
+needs_no_call tells old new m (replies.Update pass reply) same h = absurd (no_receipt old new h.0 same h.1.1)
+needs_no_call tells old new m (replies.Read pass version value) same h = absurd (no_receipt old new h.0 same h.1.1)
+needs_no_call tells old new m (replies.Status text) same h = inl h.0
+needs_no_call tells old new (messages.Update node pass update) (replies.Refused refusal) same h = inr (ap replies.Refused h.0)
+needs_no_call tells old new (messages.Read node pass mode object) (replies.Refused refusal) same h = inr (ap replies.Refused h.0)
+needs_no_call tells old new messages.Status (replies.Refused refusal) same h = inl refl
 
 -- a turn under fewer texts of a status and fewer refusals is one under more
 module _ (told tells : List ℕ → Type 0) (texts : (text : List ℕ) → told text → tells text) (r s : Refusing) (old : List Called) (m : ClientMessage) (new : List Called) (more : (e : Refusal) → MayReplyRefused told r m e → MayReplyRefused tells s m e) where

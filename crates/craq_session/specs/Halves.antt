@@ -95,8 +95,13 @@ pub record EndsTurn (q : CallRequest) (outcome : Result Called Refusal) (old : L
 abbrev pub IsRefusable : Refusing → CallRequest → Result Called Refusal → Type 0
 IsRefusable refuses q outcome = (e : Refusal) → RefusesCall q outcome e → refuses q.node q.pass q.ask e
 
--- the session in a turn: no call was made, and no receipt came; or the call of the message was made, and the reply is that of its outcome
+-- a reply without a call: the message asks for the status, or memory is out
+abbrev pub NeedsNoCall : ClientMessage → ClientReply → Type 0
+NeedsNoCall message reply = (message ≡ messages.Status) ⊎ (reply ≡ replies.Refused Memory)
+
+-- the session in a turn: no call was made, since none was needed, and no receipt came; or the call of the message was made, and the reply
+-- is that of its outcome
 pub data HasAsked {T R : Type 0} (submits : Submitting T R) (finishes : Finishing T R) (message : ClientMessage) (old : T) (receipts : List Called) (reply : ClientReply) (after : List Called) (new : T) : Type 0 where
-  nothing : after ≡ receipts → new ≡ old → HasAsked submits finishes message old receipts reply after new
+  nothing : after ≡ receipts → new ≡ old → NeedsNoCall message reply → HasAsked submits finishes message old receipts reply after new
   call : (q : CallRequest) (outcome : Result Called Refusal) → message ≡ asked_by q → q.node ≡ name_of q.node.node q.ask
       → HasCalled submits finishes q old outcome new → EndsTurn q outcome receipts reply after → HasAsked submits finishes message old receipts reply after new

@@ -18,7 +18,7 @@ returns-in-Some-try_remove-clause-writes g c =
 
 pub close-requires : goal.close-requires
 close-requires g c =
-    ended_reachable (g.H.Backend.tells c.args.backend.now) (g.H.Backend.refuses c.args.backend.now) (called_by (g.H.AsyncBackend.submits c.args.backend.now) (g.H.AsyncBackend.finishes c.args.backend.now)) (g.H.AsyncBackend.finishes c.args.backend.now)
+    ended_reachable g.H.LoopBackend.is_new (g.H.Backend.tells c.args.backend.now) (g.H.Backend.refuses c.args.backend.now) (called_by (g.H.AsyncBackend.submits c.args.backend.now) (g.H.AsyncBackend.finishes c.args.backend.now)) (g.H.AsyncBackend.finishes c.args.backend.now)
     c.args.connections.now c.args.key c.in-Some.connection.now c.give.new.self c.in-Some-try_remove.ended
     (g.S.Socket.contents c.in-Some.connection.now.stream) (g.S.Socket.contents c.give.new.self.stream)
     c.requires (sym c.in-Some.ensures.value) c.give.ensures.writes (sym c.in-Some-try_remove.ensures.value)

@@ -8,7 +8,7 @@ use Rattle.craq_event_loop.proofs.event_loop.Members+ClientStream+T+P.round.Goal
 pub step_all-requires : goal.step_all-requires
 step_all-requires g c =
     c.take_arrivals.ensures.reachable (c.take_completions.ensures.kept c.requires.kept)
-    (brought_reachable (g.H.Backend.tells c.args.backend.now) (g.H.Backend.refuses c.args.backend.now) (called_by (g.H.AsyncBackend.submits c.args.backend.now) (g.H.AsyncBackend.finishes c.args.backend.now)) (g.H.AsyncBackend.finishes c.args.backend.now)
+    (brought_reachable g.H.LoopBackend.is_new (g.H.Backend.tells c.args.backend.now) (g.H.Backend.refuses c.args.backend.now) (called_by (g.H.AsyncBackend.submits c.args.backend.now) (g.H.AsyncBackend.finishes c.args.backend.now)) (g.H.AsyncBackend.finishes c.args.backend.now)
     (g.H.LoopBackend.brings c.args.backend.now c.args.self.now.completions.items) c.args.self.now.connections c.take_completions.new.self.connections c.take_completions.ensures.delivered
     c.requires.reachable)
 
@@ -17,23 +17,23 @@ go_on-requires-clause-kept g c = c.step_all.ensures.kept (c.take_arrivals.ensure
 
 pub go_on-requires-clause-reachable : goal.go_on-requires-clause-reachable
 go_on-requires-clause-reachable g c =
-    served_reachable (g.H.Backend.tells c.args.backend.now) (g.H.Backend.refuses c.args.backend.now) (called_by (g.H.AsyncBackend.submits c.args.backend.now) (g.H.AsyncBackend.finishes c.args.backend.now)) (g.H.AsyncBackend.finishes c.args.backend.now)
+    served_reachable g.H.LoopBackend.is_new (g.H.Backend.tells c.args.backend.now) (g.H.Backend.refuses c.args.backend.now) (called_by (g.H.AsyncBackend.submits c.args.backend.now) (g.H.AsyncBackend.finishes c.args.backend.now)) (g.H.AsyncBackend.finishes c.args.backend.now)
     (λ _. None) (λ _. None) (λ _. ⊤) (λ _. ⊤) (λ _. ⊤) c.take_arrivals.new.self.busy.items c.take_arrivals.new.self.connections c.step_all.new.self.connections c.step_all.ensures.serves
     (c.take_arrivals.ensures.reachable (c.take_completions.ensures.kept c.requires.kept)
-    (brought_reachable (g.H.Backend.tells c.args.backend.now) (g.H.Backend.refuses c.args.backend.now) (called_by (g.H.AsyncBackend.submits c.args.backend.now) (g.H.AsyncBackend.finishes c.args.backend.now)) (g.H.AsyncBackend.finishes c.args.backend.now)
+    (brought_reachable g.H.LoopBackend.is_new (g.H.Backend.tells c.args.backend.now) (g.H.Backend.refuses c.args.backend.now) (called_by (g.H.AsyncBackend.submits c.args.backend.now) (g.H.AsyncBackend.finishes c.args.backend.now)) (g.H.AsyncBackend.finishes c.args.backend.now)
     (g.H.LoopBackend.brings c.args.backend.now c.args.self.now.completions.items) c.args.self.now.connections c.take_completions.new.self.connections c.take_completions.ensures.delivered
     c.requires.reachable))
 
 pub returns-clause-reachable : goal.returns-clause-reachable
 returns-clause-reachable g c =
     let before =
-    served_reachable (g.H.Backend.tells c.args.backend.now) (g.H.Backend.refuses c.args.backend.now) (called_by (g.H.AsyncBackend.submits c.args.backend.now) (g.H.AsyncBackend.finishes c.args.backend.now)) (g.H.AsyncBackend.finishes c.args.backend.now)
+    served_reachable g.H.LoopBackend.is_new (g.H.Backend.tells c.args.backend.now) (g.H.Backend.refuses c.args.backend.now) (called_by (g.H.AsyncBackend.submits c.args.backend.now) (g.H.AsyncBackend.finishes c.args.backend.now)) (g.H.AsyncBackend.finishes c.args.backend.now)
     (λ _. None) (λ _. None) (λ _. ⊤) (λ _. ⊤) (λ _. ⊤) c.take_arrivals.new.self.busy.items c.take_arrivals.new.self.connections c.step_all.new.self.connections c.step_all.ensures.serves
     (c.take_arrivals.ensures.reachable (c.take_completions.ensures.kept c.requires.kept)
-    (brought_reachable (g.H.Backend.tells c.args.backend.now) (g.H.Backend.refuses c.args.backend.now) (called_by (g.H.AsyncBackend.submits c.args.backend.now) (g.H.AsyncBackend.finishes c.args.backend.now)) (g.H.AsyncBackend.finishes c.args.backend.now)
+    (brought_reachable g.H.LoopBackend.is_new (g.H.Backend.tells c.args.backend.now) (g.H.Backend.refuses c.args.backend.now) (called_by (g.H.AsyncBackend.submits c.args.backend.now) (g.H.AsyncBackend.finishes c.args.backend.now)) (g.H.AsyncBackend.finishes c.args.backend.now)
     (g.H.LoopBackend.brings c.args.backend.now c.args.self.now.completions.items) c.args.self.now.connections c.take_completions.new.self.connections c.take_completions.ensures.delivered
     c.requires.reachable)) in
-    served_reachable (g.H.Backend.tells c.args.backend.now) (g.H.Backend.refuses c.args.backend.now) (called_by (g.H.AsyncBackend.submits c.args.backend.now) (g.H.AsyncBackend.finishes c.args.backend.now)) (g.H.AsyncBackend.finishes c.args.backend.now)
+    served_reachable g.H.LoopBackend.is_new (g.H.Backend.tells c.args.backend.now) (g.H.Backend.refuses c.args.backend.now) (called_by (g.H.AsyncBackend.submits c.args.backend.now) (g.H.AsyncBackend.finishes c.args.backend.now)) (g.H.AsyncBackend.finishes c.args.backend.now)
     (λ _. None) (λ _. None) (λ _. ⊤) (λ _. ⊤) (λ _. ⊤) (take c.args.shares c.step_all.new.self.behind.items) c.step_all.new.self.connections c.go_on.new.self.connections c.go_on.ensures.serves
     before
 

@@ -19,10 +19,10 @@ round-requires-clause-kept g c =
 pub round-requires-clause-reachable : goal.round-requires-clause-reachable
 round-requires-clause-reachable g c =
     elim c.if-self-gt0.branch [
-      | then-self-gt0 w ↦ subst (λ m. AreReachable (g.H.Backend.tells c.args.backend.now) (g.H.Backend.refuses c.args.backend.now) (called_by (g.H.AsyncBackend.submits c.args.backend.now) (g.H.AsyncBackend.finishes c.args.backend.now)) (g.H.AsyncBackend.finishes c.args.backend.now) m.connections) (sym w.self-is)
-          (looked_reachable (g.H.Backend.tells c.args.backend.now) (g.H.Backend.refuses c.args.backend.now) (called_by (g.H.AsyncBackend.submits c.args.backend.now) (g.H.AsyncBackend.finishes c.args.backend.now)) (g.H.AsyncBackend.finishes c.args.backend.now)
+      | then-self-gt0 w ↦ subst (λ m. AreReachable g.H.LoopBackend.is_new (g.H.Backend.tells c.args.backend.now) (g.H.Backend.refuses c.args.backend.now) (called_by (g.H.AsyncBackend.submits c.args.backend.now) (g.H.AsyncBackend.finishes c.args.backend.now)) (g.H.AsyncBackend.finishes c.args.backend.now) m.connections) (sym w.self-is)
+          (looked_reachable g.H.LoopBackend.is_new (g.H.Backend.tells c.args.backend.now) (g.H.Backend.refuses c.args.backend.now) (called_by (g.H.AsyncBackend.submits c.args.backend.now) (g.H.AsyncBackend.finishes c.args.backend.now)) (g.H.AsyncBackend.finishes c.args.backend.now)
           (record (c.args.self.now) { looks = c.saturating_add-self.result }) w.look_for_idle.new.self w.seconds.result w.look_for_idle.ensures.ends w.look_for_idle.ensures.else_stays c.requires.reachable)
-      | else-self-gt0 w ↦ subst (λ m. AreReachable (g.H.Backend.tells c.args.backend.now) (g.H.Backend.refuses c.args.backend.now) (called_by (g.H.AsyncBackend.submits c.args.backend.now) (g.H.AsyncBackend.finishes c.args.backend.now)) (g.H.AsyncBackend.finishes c.args.backend.now) m.connections) (sym w.self-is) c.requires.reachable
+      | else-self-gt0 w ↦ subst (λ m. AreReachable g.H.LoopBackend.is_new (g.H.Backend.tells c.args.backend.now) (g.H.Backend.refuses c.args.backend.now) (called_by (g.H.AsyncBackend.submits c.args.backend.now) (g.H.AsyncBackend.finishes c.args.backend.now)) (g.H.AsyncBackend.finishes c.args.backend.now) m.connections) (sym w.self-is) c.requires.reachable
     ]
 
 pub round_again-requires-clause-kept : goal.round_again-requires-clause-kept

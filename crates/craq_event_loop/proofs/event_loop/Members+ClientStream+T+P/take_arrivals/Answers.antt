@@ -12,8 +12,8 @@ loop-preserved g c = λ k. (
   c.take_in.ensures.kept (c.loop.invariant k).0,
   λ key one here. stays_either c.in-Some.arrival.stream c.in-Some.arrival.session c.in-Some.arrival.slot c.in-Some.arrival.receipts c.loop.self c.take_in.new.self c.take_in.result
       c.take_in.ensures.taken c.take_in.ensures.refused (c.loop.invariant k).0 key one ((c.loop.invariant k).1 key one here),
-  λ r. either_reachable (g.H.Backend.tells c.args.backend.now) (g.H.Backend.refuses c.args.backend.now) (called_by (g.H.AsyncBackend.submits c.args.backend.now) (g.H.AsyncBackend.finishes c.args.backend.now)) (g.H.AsyncBackend.finishes c.args.backend.now)
-      c.loop.self c.take_in.new.self c.in-Some.arrival.stream c.in-Some.arrival.session c.in-Some.arrival.slot c.in-Some.arrival.receipts c.take_in.result
+  λ r. either_reachable g.H.LoopBackend.is_new (g.H.Backend.tells c.args.backend.now) (g.H.Backend.refuses c.args.backend.now) (called_by (g.H.AsyncBackend.submits c.args.backend.now) (g.H.AsyncBackend.finishes c.args.backend.now)) (g.H.AsyncBackend.finishes c.args.backend.now)
+      c.loop.self c.take_in.new.self c.in-Some.arrival.stream c.in-Some.arrival.session c.in-Some.arrival.slot c.in-Some.arrival.receipts c.in-Some.ensures c.take_in.result
       c.take_in.ensures.taken c.take_in.ensures.refused (c.loop.invariant k).0 ((c.loop.invariant k).2 r),
   waits_either c.in-Some.arrival.stream c.in-Some.arrival.session c.in-Some.arrival.slot c.in-Some.arrival.receipts c.loop.self c.take_in.new.self c.take_in.result
       c.take_in.ensures.taken c.take_in.ensures.refused (c.loop.invariant k).0

@@ -34,7 +34,7 @@ loop-key-preserved g c =
       λ l. kept_next c.args.self.now.connections c.loop-key.self.1.1.0 c.give_at.new.connections c.args.self.now.busy c.args.self.now.behind
           before after c.deref-key-items.result.now c.loop-key.key-index c.give_at.result l
           c.deref-key-items.ensures.value c.loop-key-test.true (c.loop-key.invariant.1 l) c.give_at.ensures.others c.give_at.ensures.tells items grows,
-      one_written_reachable (g.H.Backend.tells c.args.backend.now) (g.H.Backend.refuses c.args.backend.now) (called_by (g.H.AsyncBackend.submits c.args.backend.now) (g.H.AsyncBackend.finishes c.args.backend.now)) (g.H.AsyncBackend.finishes c.args.backend.now)
+      one_written_reachable g.H.LoopBackend.is_new (g.H.Backend.tells c.args.backend.now) (g.H.Backend.refuses c.args.backend.now) (called_by (g.H.AsyncBackend.submits c.args.backend.now) (g.H.AsyncBackend.finishes c.args.backend.now)) (g.H.AsyncBackend.finishes c.args.backend.now)
           g.S.Socket.remaining g.S.Socket.contents g.S.Socket.is_over g.S.Socket.is_dry g.S.Socket.is_full c.loop-key.self.1.1.0 c.give_at.new.connections _
           c.give_at.ensures.writes c.give_at.ensures.vacant c.give_at.ensures.others c.loop-key.invariant.2,
     )

@@ -8,7 +8,7 @@ use Rattle.craq_event_loop.proofs.event_loop.Members.go_on.Goals as goal
 
 pub step_all-requires : goal.step_all-requires
 step_all-requires g c =
-    subst (λ x. AreReachable (g.H.Backend.tells c.args.backend.now) (g.H.Backend.refuses c.args.backend.now) (called_by (g.H.AsyncBackend.submits c.args.backend.now) (g.H.AsyncBackend.finishes c.args.backend.now)) (g.H.AsyncBackend.finishes c.args.backend.now) x)
+    subst (λ x. AreReachable g.H.LoopBackend.is_new (g.H.Backend.tells c.args.backend.now) (g.H.Backend.refuses c.args.backend.now) (called_by (g.H.AsyncBackend.submits c.args.backend.now) (g.H.AsyncBackend.finishes c.args.backend.now)) (g.H.AsyncBackend.finishes c.args.backend.now) x)
     (sym c.resume.ensures.connections) c.requires.reachable
 
 pub returns-clause-kept : goal.returns-clause-kept

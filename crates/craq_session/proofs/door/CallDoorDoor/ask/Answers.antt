@@ -2,7 +2,8 @@ use Rattle.std.proofs.Common.{◌≡◌, List, ap, refl, subst, ◌∙◌}
 use Rattle.craq_seat.specs.Calls.{Called}
 use Rattle.craq_session.specs.declared.calls.DoorCalls.{DoorCalls}
 use Rattle.craq_session.specs.Halves.{EndsTurn, IsFull, call, nothing}
-use Rattle.craq_session.proofs.TwoHalves.{begun_turn, halves_turn}
+use Rattle.craq_session.specs.Turns.{kept}
+use Rattle.craq_session.proofs.TwoHalves.{begun_turn, halves_turn, needs_no_call}
 use Rattle.craq_session.proofs.door.CallDoorDoor.ask.Goals as goal
 
 pub returns-in-Reported-clause-turn : goal.returns-in-Reported-clause-turn
@@ -11,7 +12,8 @@ returns-in-Reported-clause-turn g c =
     let begun = c.in-Reported.ensures in (
       begun_turn (g.C.Backend.tells door.backend) (IsFull door.calls) (g.C.Backend.refuses door.backend) door.calls.policy door.calls.receipts.items
           c.begin_turn.new.calls.receipts.items c.args.message c.in-Reported.reply begun.room begun.begun.0,
-      nothing begun.receipts refl,
+      nothing begun.receipts refl (needs_no_call (g.C.Backend.tells door.backend) (kept door.calls.policy door.calls.receipts.items) c.begin_turn.new.calls.receipts.items
+          c.args.message c.in-Reported.reply begun.receipts begun.begun.0),
       begun.policy,
       refl,
     )

@@ -1,0 +1,65 @@
+//! `Incoming`: a connection that was handed to an event loop, which takes it in; for `io_threads`.
+ghost use Rattle.craq_server.specs.Sessions.{IsNewSession};
+
+use crate::store_session::StoreSession;
+use craq_event_loop::{Arrival, ClientStream};
+use craq_workers::Named;
+use std::marker::Model;
+
+/// A connection that was handed to an event loop. No call was made in its session. A contract sees
+/// the session.
+#[derive(Drop)]
+pub(crate) struct Incoming<C: Named> {
+    stream: ClientStream,
+    session: StoreSession<C>,
+    slot: usize,
+    receipts: usize,
+}
+
+impl<C: Named> Model for Incoming<C> {
+    ghost use Rattle.craq_server.specs.Sessions.{Connected, IsNewSession};
+
+    ghost Value = { Connected };
+
+    ghost view = { λ i. i.session };
+
+    ghost invariant = { λ i. IsNewSession i.session };
+}
+
+impl<C: Named> Incoming<C> {
+    /// Makes the value of a connection with a new session.
+    pub(crate) fn new(arrival: Arrival<StoreSession<C>>) -> Self
+        requires { IsNewSession arrival.session }
+    {
+        let Arrival {
+            stream,
+            session,
+            slot,
+            receipts,
+        } = arrival;
+        Incoming {
+            stream,
+            session,
+            slot,
+            receipts,
+        }
+    }
+
+    /// Returns the connection, for the event loop.
+    pub(crate) fn into_arrival(self) -> Arrival<StoreSession<C>>
+        ensures { IsNewSession result.session }
+    {
+        let Incoming {
+            stream,
+            session,
+            slot,
+            receipts,
+        } = self;
+        Arrival {
+            stream,
+            session,
+            slot,
+            receipts,
+        }
+    }
+}

@@ -1,5 +1,5 @@
 """Orderly ends of a server under load: a full accept queue, no free descriptors, clients that take no
-reply, a listener that fails."""
+reply, requests that wait behind a stopped node, a listener that fails."""
 import ctypes
 import os
 import resource
@@ -9,7 +9,10 @@ import subprocess
 import tempfile
 import time
 
+from tools import plain_client as example
 from tools.end_to_end import running
+from tools.end_to_end.control import Controlled
+from tools.end_to_end.bad_input import framed
 from tools.end_to_end.limits import Limited, is_served, read_of, reply
 from tools.end_to_end.signals import top_with
 
@@ -100,6 +103,24 @@ def never_reads(checks, craqd):
         let_go([first, *made])
 
 
+def behind_a_stopped_node(checks, craqd):
+    """Updates wait behind a stopped tail as the server is to end: of a client that waits, and of one that is gone."""
+    with Controlled(craqd, running.PLAN, "--journal") as server:
+        checks.same("the tail stops", server.ask("stop a/3"), ["a/3 stopped"])
+        made = [socket.create_connection(("127.0.0.1", server.port), running.PATIENCE) for _ in range(2)]
+        for client, it in enumerate(made, 1):
+            it.sendall(framed(example.one(1, example.update_request(1, 0, client, 1, example.put(0, b"k", b"v")))))
+        time.sleep(0.5)
+        made[1].close()
+        began = time.time()
+        status, out, _ = server.finish()
+        took = time.time() - began
+        checks.same("a server with updates behind a stopped tail", (status, out), (0, "audit merged 0\naudit merged 0\n"))
+        limit = GRACE_SECONDS + END_SECONDS + SLACK_SECONDS
+        checks.that(took < limit, f"a server with updates behind a stopped tail ends within {limit} s, and took {took:.1f} s")
+        made[0].close()
+
+
 def signalled(checks, craqd):
     """./serve at SIGTERM, with no descriptor left and a full accept queue."""
     with tempfile.TemporaryDirectory(prefix="end-to-end-") as room, running.text_file(running.PLAN) as plan:
@@ -183,5 +204,6 @@ def lacking(checks, craqd):
 
 
 def tried(checks, craqd):
-    for part in without_descriptors, without_descriptors_to_the_end, after_the_last, never_reads, signalled, listener_fails, lacking:
+    for part in without_descriptors, without_descriptors_to_the_end, after_the_last, never_reads, behind_a_stopped_node, signalled, \
+            listener_fails, lacking:
         checks.part(f"endings: {part.__name__.replace('_', ' ')}", part, craqd)

@@ -1,7 +1,7 @@
 //! `ConnectionSlots`: the places of open connections; kept by `connections` under its lock.
-ghost use Rattle.std.specs.Prelude.{◌≡◌, ◌<◌, ◌↔◌, None, Some, IfOk, IfSome, IsTrue, OnErr, OnOk, position, set, length, replicate};
+ghost use Rattle.std.specs.Prelude.{◌≡◌, ◌<◌, ◌↔◌, [], None, Some, IfSome, IsTrue, OnErr, OnOk, position, set, length};
 ghost use Rattle.std.specs.List.{All};
-ghost use Rattle.craq_server.specs.Slots.{IsFree, is_free, with_room};
+ghost use Rattle.craq_server.specs.Slots.{IsFree, is_free, may_grow, with_room};
 
 use std::alloc::{AllocError, Global};
 use std::marker::Model;
@@ -33,15 +33,21 @@ fn is_free(at: &Option<Arc<TcpStream>>) -> bool
 }
 
 impl ConnectionSlots {
-    /// Makes `most` free places. Fails only when out of memory.
-    pub(crate) fn new(alloc: Global, most: u32) -> Result<Self, AllocError>
-        ensures { IfOk result (λ slots. slots ≡ replicate most None) }
+    /// Makes no places. Takes no memory.
+    pub(crate) fn new(alloc: Global) -> Self
+        ensures { result ≡ [] }
     {
-        let mut slots = Vec::new(alloc);
-        for _ in 0..most {
-            slots.push(None)?;
+        ConnectionSlots {
+            slots: Vec::new(alloc),
         }
-        Ok(ConnectionSlots { slots })
+    }
+
+    /// Returns whether there may be one place more, where there are to be at most `most`, or with 0
+    /// any number.
+    fn may_grow(&self, most: u32) -> bool
+        ensures { result ≡ may_grow most (length self.now) }
+    {
+        most == 0 || self.slots.len() < most as usize
     }
 
     /// Returns the first free place, if there is one.
@@ -52,13 +58,13 @@ impl ConnectionSlots {
         self.slots.iter().position(|at| is_free(at))
     }
 
-    /// Makes a free place behind the others where none is free. Fails only when out of memory;
-    /// unchanged then.
-    pub(crate) fn make_room(&mut self) -> Result<(), AllocError>
-        ensures made { OnOk result (self.new ≡ with_room self.old) }
+    /// Makes a free place behind the others where none is free and there are fewer than `most`, or
+    /// `most` is 0. Fails only when out of memory; unchanged then.
+    pub(crate) fn make_room(&mut self, most: u32) -> Result<(), AllocError>
+        ensures made { OnOk result (self.new ≡ with_room most self.old) }
         ensures err { OnErr result (self.new ≡ self.old) }
     {
-        if self.first_free().is_none() {
+        if self.first_free().is_none() && self.may_grow(most) {
             self.slots.push(None)?;
         }
         Ok(())

@@ -13,6 +13,8 @@ struct Progress {
     has_begun: bool,
     /// True where it is to end.
     is_ending: bool,
+    /// True where its connections were cut.
+    is_cut: bool,
     /// True where it takes no more connections and all are over.
     is_over: bool,
 }
@@ -26,27 +28,27 @@ pub struct Connections {
     changed: Condvar,
     /// The open connections, each at its place.
     slots: Mutex<ConnectionSlots>,
-    /// True where there are never more places than at first.
-    is_bounded: bool,
+    /// The most places; 0 for as many as connections come.
+    most: u32,
     /// The counts of all connections.
     pub(crate) counters: Counters,
 }
 
 impl Connections {
-    /// Makes places for at most `most` open connections, or with 0 for as many as come: the
-    /// system's limit of descriptors then bounds them. None is open yet. Fails only when out of
-    /// memory.
+    /// Makes the connections of a server that has at most `most` of them open, or with 0 as many as
+    /// come: the system's limit of descriptors then bounds them. None is open yet. Fails only when
+    /// out of memory.
     pub fn new(alloc: Global, most: u32) -> Result<Self, AllocError> {
-        let slots = ConnectionSlots::new(alloc, most)?;
         Ok(Connections {
             progress: Mutex::new(Progress {
                 has_begun: false,
                 is_ending: false,
+                is_cut: false,
                 is_over: false,
             }),
             changed: Condvar::new(),
-            slots: Mutex::new(slots),
-            is_bounded: most > 0,
+            slots: Mutex::new(ConnectionSlots::new(alloc)),
+            most,
             counters: Counters::new(alloc)?,
         })
     }
@@ -59,6 +61,11 @@ impl Connections {
     /// Returns whether the server is to end.
     pub fn is_ending<R: Wait>(&self, rt: &R) -> bool {
         self.progress.lock(rt).is_ending
+    }
+
+    /// Returns whether the connections were cut (`cut`).
+    pub fn is_cut<R: Wait>(&self, rt: &R) -> bool {
+        self.progress.lock(rt).is_cut
     }
 
     /// Notes that the server has all that it needs and takes connections in from now on.
@@ -94,17 +101,14 @@ impl Connections {
     }
 
     /// Gives a connection a free place and returns it; `None` where no place is free and there are
-    /// no more. Takes memory only where the places are not bounded. Fails only when out of memory;
-    /// no place is taken then.
+    /// to be no more. Fails only when out of memory for one place more; no place is taken then.
     pub(crate) fn enter<R: Wait>(
         &self,
         rt: &R,
         stream: Arc<TcpStream>,
     ) -> Result<Option<usize>, AllocError> {
         let mut slots = self.slots.lock(rt);
-        if !self.is_bounded {
-            slots.make_room()?;
-        }
+        slots.make_room(self.most)?;
         Ok(slots.enter(stream))
     }
 
@@ -126,17 +130,19 @@ impl Connections {
         }
     }
 
-    /// Ends the server in order: no connection is taken in from now on, and those that are open
-    /// bring no more; what they brought before is still answered. The accepting thread sees this
-    /// within 100 milliseconds.
+    /// Ends the server in order: no connection is taken in from now on, and those that are open are
+    /// shut for reading. What has come is still answered; a connection is over once a read finds
+    /// nothing more. The accepting thread sees this within 100 milliseconds.
     pub fn end<R: Wait>(&self, rt: &R) {
         self.progress.lock(rt).is_ending = true;
         self.changed.notify_all();
         self.shut_all(rt, Shutdown::Read);
     }
 
-    /// Ends each connection that is still open, whatever is still to be written to it.
+    /// Ends each connection that is still open, whatever is still to be written to it. One whose
+    /// request is under way is over once the request has its reply.
     pub fn cut<R: Wait>(&self, rt: &R) {
+        self.progress.lock(rt).is_cut = true;
         self.shut_all(rt, Shutdown::Both);
     }
 }

@@ -141,7 +141,7 @@ where
 
     /// Ticks the chains until the server is over.
     fn tick(&self) {
-        tick_chains(&self.rt, self.store, &self.over);
+        tick_chains(&self.rt, self.store, self.connections, &self.over);
     }
 
     /// Runs the control lines that come, until the server is over.

@@ -4,6 +4,7 @@ ghost use Rattle.std.specs.Prelude.{◌≡◌, ◌-◌, ◌+◌, ◌/◌, nat_lt
 use crate::serving::RunningStore;
 use craq_names::ChainId;
 use craq_place::MOST_CHAINS;
+use craq_server::Connections;
 use craq_workers::Named;
 use std::sync::Wait;
 use std::sync::atomic::{AtomicBool, Ordering};
@@ -45,16 +46,41 @@ fn tick_each<R: Wait, N: Named>(rt: &R, store: &RunningStore<N>) -> u16 {
     count
 }
 
+/// Stops the members of each chain. So a request that waits behind a stopped node, and would wait
+/// forever, is refused with `Stopped`. Out of memory, or where a node cannot be stopped, it goes on
+/// running.
+fn stop_members<R: Wait, N: Named + Send + 'static>(rt: &R, store: &RunningStore<N>) {
+    let Ok(chains) = store.status(rt) else {
+        return;
+    };
+    let mut id = 0u16;
+    for chain in chains.as_slice() {
+        for node in chain.config.members.as_slice() {
+            let _ = store.stop(rt, ChainId::new(id), *node);
+        }
+        id = id.saturating_add(1);
+    }
+}
+
 /// Ticks the chains until `over` is set, each about every 50 ms. At its start it ticks all of them,
 /// and from then on one after another with an even pause between: with 64 chains no two work at the
-/// same moment for the sake of a tick.
-pub fn tick_chains<R: Clock + Wait, N: Named>(rt: &R, store: &RunningStore<N>, over: &AtomicBool) {
+/// same moment for the sake of a tick. Once the connections were cut it stops all members, so that
+/// no request keeps the server from its end.
+pub fn tick_chains<R: Clock + Wait, N: Named + Send + 'static>(
+    rt: &R,
+    store: &RunningStore<N>,
+    connections: &Connections,
+    over: &AtomicBool,
+) {
     let chains = tick_each(rt, store);
     let pause = Duration::from_micros(pause_of(chains));
     let mut chain = 0;
     for _ in rt.forever() {
         if over.load(Ordering::SeqCst) {
             break;
+        }
+        if connections.is_cut(rt) {
+            stop_members(rt, store);
         }
         thread::sleep(rt, pause);
         let _ = store.tick_chain(rt, ChainId::new(chain));

@@ -1,28 +1,26 @@
 -- A strong reply of a running store is that of a single copy, between its request and itself.
-use Rattle.std.proofs.Common.{◌≡◌, ◌≤◌, ℕ, zero, suc, ◌+◌, ◌-◌, Bool, true, List, [], ◌∷◌, map, length, filter, Option, Some, refl, sym, ap, subst, arith, ◌∙◌, inl, inr}
+use Rattle.std.proofs.Common.{◌≡◌, ◌<◌, ◌≤◌, ℕ, zero, suc, ◌+◌, ◌-◌, Bool, true, List, [], ◌∷◌, map, length, filter, Option, Some, refl, sym, ap, subst, arith, ◌∙◌, inl, inr}
+use Rattle.std.specs.Prelude.{take}
 use Rattle.std.specs.List.{AllZip}
 use Rattle.std.proofs.lemmas.Bool.{cond_both}
 use mathlib.Core.List.{IsPrefix}
+use Rattle.craq_commands.specs.SingleCopy.{after}
 use Rattle.craq_names.specs.declared.name.NodeName.{NodeName}
 use Rattle.craq_model.specs.declared.ask.Answer.{Answer}
 use Rattle.craq_model.specs.declared.ask.Answer.TheVariants as answers
 use Rattle.craq_model.specs.declared.ask.Ask.{Ask}
 use Rattle.craq_runs.specs.declared.explanation.Explanation.{Explanation}
 use Rattle.craq_runs.specs.declared.run.Run.{Run}
-use Rattle.craq_runs.specs.Explain.{explain}
 use Rattle.craq_runs.specs.Seen.{Asked, Answered, Seen, ask_of, is_strong_answer, is_strong_ask, seen, strong_answers}
 use Rattle.craq_runs.specs.Valid.{IsExplained, IsSaid, IsValid, OnlyGrows, committed_after, committed_before, state_at}
 use Rattle.craq_seat.specs.Calls.{Called}
 use Rattle.craq_seat.specs.Merge.{MergedStep}
-use Rattle.craq_causality.specs.Causal.{AreFew}
 use Rattle.craq_causality.proofs.Orders.{IsIn, from_contains}
 use Rattle.craq_causality.proofs.Walk.{taken_among}
 use Rattle.craq_store_history.specs.declared.entry.Entry.{Entry}
-use Rattle.craq_store_history.specs.Chains.{IsHistory}
 use Rattle.craq_store_history.specs.Entries.{lines_in, members_in}
 use Rattle.craq_store_history.proofs.Lines.{lines_prefix}
-use Rattle.craq_store_parts.specs.Witnessed.{IsWitnessed}
-use Rattle.craq_running_promise.specs.Standing.{AnswersAsOneCopy, IsCallOf, StandsIn, run_in}
+use Rattle.craq_running_promise.specs.Standing.{AnswersAsOneCopy, HasChain, HasMoves, IsCallOf, IsOperationOf, Operation, StandsIn, explanation_of_chain, run_in, updates_of_chain, view_of_chain}
 use Rattle.craq_running_promise.proofs.Seen.{is_call}
 use Rattle.craq_running_promise.proofs.Standing.{has_explanation, no_longer, stands}
 
@@ -65,14 +63,14 @@ pub record HasPlace (node : NodeName) (ask : Ask) (receipt : Called) (asked answ
   pub not_beyond : position ≤ committed_after e answered
   pub is_said : IsSaid (state_at s e position) ask receipt.answer
 
-placed : (node : NodeName) (ask : Ask) (receipt : Called) (asked answered : ℕ) (run : Run) (e : Explanation) → IsCallOf node ask receipt asked answered run → IsValid run e → is_strong_ask ask ≡ true → HasPlace node ask receipt asked answered (seen run) e
+placed : (node : NodeName) (ask : Ask) (receipt : Called) (asked answered : ℕ) (run : Run) (e : Explanation) → IsCallOf node ask receipt asked answered run → IsValid run e → is_strong_answer (Some (request node ask receipt asked)) receipt.answer ≡ true → HasPlace node ask receipt asked answered (seen run) e
 unfolding strong_answers
 placed node ask receipt asked answered run e c v strong =
     let s : Seen = seen run in
     let a : Answered = reply node receipt answered in
     let r : Asked = request node ask receipt asked in
     let test : Answered → Bool = λ x. is_strong_answer (ask_of s.asks x) x.answer in
-    let is : test a ≡ true = subst (λ (o : Option Asked). is_strong_answer o receipt.answer ≡ true) (sym c.is_ask) (strong_reply r receipt.answer strong) in
+    let is : test a ≡ true = subst (λ (o : Option Asked). is_strong_answer o receipt.answer ≡ true) (sym c.is_ask) strong in
     let p = zipped (IsExplained s e) (filter test s.answers) e.places a v.checked.strong.explained (passes test s.answers a (from_contains s.answers a c.is_answer) is) in
     let same : p.1.ask ≡ r = same_some p.1.ask r (ask_of s.asks a) p.1.is_ask c.is_ask in
     record {
@@ -86,34 +84,46 @@ placed node ask receipt asked answered run e c v strong =
 same_members : (o : Option (List ℕ)) (xs ys : List ℕ) → o ≡ Some xs → o ≡ Some ys → xs ≡ ys
 same_members o xs ys h k = cc
 
-from_place : (old new log : List Entry) (node : NodeName) (ask : Ask) (answer : Answer) (receipt : Called) (s : StandsIn old new node ask receipt log) → receipt.answer ≡ answer
-    → HasPlace node ask receipt (suc s.asked_place) (suc s.answered_place) (seen (run_in node.chain s.members log)) (explain node.chain (run_in node.chain s.members log)) → AnswersAsOneCopy old new node.chain s.members ask answer log
-from_place old new log node ask answer receipt s is p =
-    let run : Run = run_in node.chain s.members log in
+-- the moves of an operation whose request and reply stand in the history
+moves_of : (o : Operation) (members : List ℕ) (log : List Entry) → HasChain o.node.chain members log → (s : StandsIn o.old o.new o.node o.ask o.receipt log) → o.receipt.answer ≡ o.answer → HasMoves o members log
+moves_of o members log h s is =
+    let call : IsCallOf o.node o.ask o.receipt (suc s.asked_place) (suc s.answered_place) (run_in o.node.chain s.members log) = is_call o.old o.new log o.node o.ask o.receipt s h.history h.few in
+    let same : s.members ≡ members = same_members (members_in o.node.chain log) s.members members s.opened h.opened in
     let later = s.later in
     let by_then = s.by_then in
     record {
       asked = suc s.asked_place;
       answered = suc s.answered_place;
-      position = p.position;
+      is_call = subst (λ (ms : List ℕ). IsCallOf o.node o.ask o.receipt (suc s.asked_place) (suc s.answered_place) (run_in o.node.chain ms log)) same call;
+      is_answer = is;
       later = omega (arith, later);
-      in_order = p.in_order;
       by_then = omega (arith, by_then);
-      not_before = p.not_before;
-      not_beyond = p.not_beyond;
-      is_said = subst (λ (x : Answer). IsSaid (state_at (seen run) (explain node.chain run) p.position) ask x) is p.is_said;
     }
 
-pub one_copy : (client : ℕ) (old new log : List Entry) (node : NodeName) (ask : Ask) (answer : Answer) (receipt : Called) (members : List ℕ)
-    → IsWitnessed client old node ask answer receipt new → IsPrefix new log → IsHistory log → members_in node.chain log ≡ Some members → AreFew (lines_in node.chain log) → is_strong_ask ask ≡ true
-    → AnswersAsOneCopy old new node.chain members ask answer log
-one_copy client old new log node ask answer receipt members w p h opened few strong =
-    let t = stands client old new log node ask answer receipt w p h in
-    let s : StandsIn old new node ask receipt log = t.0 in
-    let v = has_explanation log node.chain s.members h s.opened few in
-    let place = placed node ask receipt (suc s.asked_place) (suc s.answered_place) (run_in node.chain s.members log) (explain node.chain (run_in node.chain s.members log)) (is_call old new log node ask receipt s h few) v.1 strong in
-    subst (λ (ms : List ℕ). AnswersAsOneCopy old new node.chain ms ask answer log) (same_members (members_in node.chain log) s.members members s.opened opened)
-    (from_place old new log node ask answer receipt s t.1 place)
+its_moves : (client : ℕ) (o : Operation) (members : List ℕ) (log : List Entry) → IsOperationOf client o → IsPrefix o.new log → HasChain o.node.chain members log → HasMoves o members log
+its_moves client o members log w p h =
+    let t = stands client o.old o.new log o.node o.ask o.answer o.receipt w p h.history in
+    moves_of o members log h t.0 t.1
+
+is_explained : (chain : ℕ) (members : List ℕ) (log : List Entry) → HasChain chain members log → IsValid (run_in chain members log) (explanation_of_chain chain members log)
+is_explained chain members log h = (has_explanation log chain members h.history h.opened h.few).1
+
+from_place : (o : Operation) (members : List ℕ) (log : List Entry) (m : HasMoves o members log)
+    → HasPlace o.node o.ask o.receipt m.asked m.answered (view_of_chain o.node.chain members log) (explanation_of_chain o.node.chain members log) → AnswersAsOneCopy o members log
+from_place o members log m p = record {
+  moves = m;
+  position = p.position;
+  not_before = p.not_before;
+  not_beyond = p.not_beyond;
+  is_said = subst (λ (x : Answer). IsSaid (after (take p.position (updates_of_chain o.node.chain members log))) o.ask x) m.is_answer p.is_said;
+}
+
+pub one_copy : (client : ℕ) (o : Operation) (members : List ℕ) (log : List Entry) → IsOperationOf client o → IsPrefix o.new log → HasChain o.node.chain members log → is_strong_ask o.ask ≡ true → AnswersAsOneCopy o members log
+one_copy client o members log w p h strong =
+    let m = its_moves client o members log w p h in
+    from_place o members log m
+    (placed o.node o.ask o.receipt m.asked m.answered (run_in o.node.chain members log) (explanation_of_chain o.node.chain members log) m.is_call (is_explained o.node.chain members log h)
+    (strong_reply (request o.node o.ask o.receipt m.asked) o.receipt.answer strong))
 
 -- ---- the order of two replies
 
@@ -135,22 +145,23 @@ as_many : (all lines : List MergedStep) → length (map (taken_among all) lines)
 as_many all [] = refl
 as_many all (l ∷ lines) = ap suc (as_many all lines)
 
-pub no_older : (chain : ℕ) (members : List ℕ) (log old new before after : List Entry) (ask request : Ask) (answer reply : Answer) → IsHistory log → members_in chain log ≡ Some members → AreFew (lines_in chain log)
-    → (first : AnswersAsOneCopy old new chain members ask answer log) (second : AnswersAsOneCopy before after chain members request reply log) → IsPrefix new before → IsPrefix after log → first.position ≤ second.position
-no_older chain members log old new before after ask request answer reply h opened few first second p q =
-    let run : Run = run_in chain members log in
-    let e : Explanation = explain chain run in
-    let s : Seen = seen run in
-    let v : IsValid run e = (has_explanation log chain members h opened few).1 in
+pub no_older : (o next : Operation) (members : List ℕ) (log : List Entry) → HasChain o.node.chain members log → next.node.chain ≡ o.node.chain
+    → (first : AnswersAsOneCopy o members log) (second : AnswersAsOneCopy next members log) → IsPrefix o.new next.old → IsPrefix next.new log → first.position ≤ second.position
+no_older o next members log h same first second p q =
+    let chain : ℕ = o.node.chain in
+    let e : Explanation = explanation_of_chain chain members log in
+    let s : Seen = view_of_chain chain members log in
+    let v : IsValid (run_in chain members log) e = is_explained chain members log h in
     let many : s.moves ≡ length (lines_in chain log) = as_many (lines_in chain log) (lines_in chain log) in
-    let upto : length (lines_in chain new) ≤ length (lines_in chain before) = no_longer (lines_in chain new) (lines_in chain before) (lines_prefix chain new before p) in
-    let within : length (lines_in chain after) ≤ length (lines_in chain log) = no_longer (lines_in chain after) (lines_in chain log) (lines_prefix chain after log q) in
-    let earlier = first.by_then in
-    let later = second.later in
-    let ordered = second.in_order in
-    let then_too = second.by_then in
+    let upto : length (lines_in chain o.new) ≤ length (lines_in chain next.old) = no_longer (lines_in chain o.new) (lines_in chain next.old) (lines_prefix chain o.new next.old p) in
+    let within : length (lines_in chain next.new) ≤ length (lines_in chain log) = no_longer (lines_in chain next.new) (lines_in chain log) (lines_prefix chain next.new log q) in
+    let asked : ℕ = second.moves.asked in
+    let earlier = first.moves.by_then in
+    let later : length (lines_in chain next.old) < asked = subst (λ (c : ℕ). length (lines_in c next.old) < asked) same second.moves.later in
+    let ordered = second.moves.is_call.in_order in
+    let then_too : second.moves.answered ≤ length (lines_in chain next.new) = subst (λ (c : ℕ). second.moves.answered ≤ length (lines_in c next.new)) same second.moves.by_then in
     let low = first.not_beyond in
-    let high = second.not_before in
-    let mid : committed_after e first.answered ≤ committed_after e (second.asked - 1) =
-    grown_to s e first.answered (second.asked - 1) v.checked.list (omega (arith, upto, earlier, later)) (omega (arith, many, within, ordered, then_too)) in
+    let high : committed_before e asked ≤ second.position = subst (λ (c : ℕ). committed_before (explanation_of_chain c members log) asked ≤ second.position) same second.not_before in
+    let mid : committed_after e first.moves.answered ≤ committed_after e (asked - 1) =
+    grown_to s e first.moves.answered (asked - 1) v.checked.list (omega (arith, upto, earlier, later)) (omega (arith, many, within, ordered, then_too)) in
     omega (arith, low, mid, high)

@@ -108,6 +108,11 @@ module _ (chain : ℕ) (members : List ℕ) (lines : List MergedStep) (id ticket
       let move : 1 + t.place ≡ suc place = omega (arith, places) in
       t.is ∙ same_asked (1 + t.place) (suc place) t.line.node id t.line.step.ticket (Some ticket) t.ask ask move of_node of_ticket asks
 
+  -- no other request has this node and ticket
+  pub ask_only : (x : Asked) → Contains (asks_from 1 (map (taken_among lines) lines)) x → x.node ≡ id → x.ticket ≡ Some ticket → x.move ≡ suc place
+  ask_only x there of with =
+      ap (λ (y : Asked). y.move) (is_its x (ask_of_line lines lines 1 x (from_contains (asks_from 1 (map (taken_among lines) lines)) x there)) of with)
+
   pub ask_is : ask_with (asks_from 1 (map (taken_among lines) lines)) id ticket ≡ Some (asked_of (suc place) id ticket ask)
   unfolding ask_with
   ask_is =
@@ -178,6 +183,7 @@ is_call old new log node ask receipt s h few =
     let x : Answered = answered_of (suc s.answered_place) node.node receipt.call.ticket receipt.answer in
     record {
       is_ask = asked;
+      only = ask_only node.chain s.members lines node.node receipt.call.ticket s.asked_place s.asked ask of_chain.0 are.apart s.asked_at s.asked_node s.event s.ticket;
       is_answer = answered;
       in_order = in_order node.chain s.members moves (asked_of (suc s.asked_place) node.node receipt.call.ticket ask) x (suc s.answered_place) refl (omega (arith, place, as_many lines lines))
           (is_typed_run node.chain s.members lines of_chain.0 of_chain.1 few) asked (from_contains (answers_from 1 [] moves) x answered);

@@ -1,25 +1,33 @@
--- A call of a running store in the run that the store's history makes of its chain.
-use Rattle.std.specs.Prelude.{◌≡◌, ◌<◌, ◌≤◌, ℕ, List, Some, Contains, length, slice_get}
+-- An operation of a running store's client in the run that the store's history makes of its chain,
+-- and in the explanation of that run.
+use Rattle.std.specs.Prelude.{◌≡◌, ◌<◌, ◌≤◌, ℕ, List, Some, Contains, length, slice_get, take}
+use Rattle.craq_causality.specs.Causal.{AreFew}
+use Rattle.craq_commands.specs.declared.command.Update.{Update}
+use Rattle.craq_commands.specs.SingleCopy.{after}
 use Rattle.craq_names.specs.declared.name.NodeName.{NodeName}
 use Rattle.craq_model.specs.declared.ask.Answer.{Answer}
 use Rattle.craq_model.specs.declared.ask.Ask.{Ask}
 use Rattle.craq_model.specs.declared.ask.Event.TheVariants as events
 use Rattle.craq_model.specs.declared.step.Out.TheVariants as outs
+use Rattle.craq_runs.specs.declared.explanation.Explanation.{Explanation}
 use Rattle.craq_runs.specs.declared.run.Run.{Run}
 use Rattle.craq_runs.specs.Explain.{explain}
-use Rattle.craq_runs.specs.Seen.{ask_with, seen}
-use Rattle.craq_runs.specs.Valid.{IsSaid, committed_after, committed_before, state_at}
+use Rattle.craq_runs.specs.Seen.{Asked, Seen, ask_with, seen}
+use Rattle.craq_runs.specs.Valid.{IsSaid, committed, committed_after, committed_before}
 use Rattle.craq_seat.specs.Calls.{Called}
 use Rattle.craq_seat.specs.Merge.{AtNode, MergedStep, run_of}
 use Rattle.craq_store_history.specs.declared.entry.Entry.{Entry}
+use Rattle.craq_store_history.specs.Chains.{IsHistory}
 use Rattle.craq_store_history.specs.Entries.{lines_in, members_in}
+use Rattle.craq_store_parts.specs.Witnessed.{IsWitnessed}
 
 -- the run that the history makes of a chain with these first members
 abbrev pub run_in : ℕ → List ℕ → List Entry → Run
 run_in chain members log = run_of members (lines_in chain log)
 
--- in the lines of its chain the node accepted the request under the receipt's ticket, after all lines of `old`; and it gave the receipt's
--- answer under that ticket, in the line of the receipt's stamp, which is among the lines of `new`
+-- in the lines of its chain the node accepted the request under the receipt's ticket, after all
+-- lines of `old`; and it gave the receipt's answer under that ticket, in the line of the receipt's
+-- stamp, which is among the lines of `new`
 pub record StandsIn (old new : List Entry) (node : NodeName) (ask : Ask) (receipt : Called) (log : List Entry) : Type 0 where
   pub members : List ℕ
   pub opened : members_in node.chain log ≡ Some members
@@ -38,22 +46,67 @@ pub record StandsIn (old new : List Entry) (node : NodeName) (ask : Ask) (receip
   pub out : Contains answered.step.outs (outs.Answer receipt.call.ticket receipt.answer)
   pub by_then : answered_place < length (lines_in node.chain new)
 
--- clients see the request of a call at the move `asked` of a run, and its reply at the move `answered`, no earlier; moves count from 1
+-- clients see the request of a call at the move `asked` of a run, and its reply at the move
+-- `answered`, no earlier; moves count from 1. The receipt's ticket ties both to the call: no other
+-- request at the node has it, and the reply is given under it
 pub record IsCallOf (node : NodeName) (ask : Ask) (receipt : Called) (asked answered : ℕ) (run : Run) : Type 0 where
   pub is_ask : ask_with (seen run).asks node.node receipt.call.ticket ≡ Some (record { move = asked; node = node.node; ticket = Some receipt.call.ticket; ask = ask })
+  pub only : (other : Asked) → Contains (seen run).asks other → other.node ≡ node.node → other.ticket ≡ Some receipt.call.ticket → other.move ≡ asked
   pub is_answer : Contains (seen run).answers (record { move = answered; node = node.node; ticket = receipt.call.ticket; answer = receipt.answer })
   pub in_order : asked ≤ answered
 
--- a single copy gives this reply after the first `position` updates of the chain's list: after all that were committed before the
--- request, and none that were not committed when the reply was given. The request comes after all moves of `old`, and the reply is
--- among the moves of `new`
-pub record AnswersAsOneCopy (old new : List Entry) (chain : ℕ) (members : List ℕ) (ask : Ask) (answer : Answer) (log : List Entry) : Type 0 where
+-- ---- operations, and the list that explains their replies
+
+-- an operation of a client: its request at a node, and the reply with its receipt. The client had
+-- seen the history `old` before, and has seen `new` since
+pub record Operation : Type 0 where
+  pub old : List Entry
+  pub node : NodeName
+  pub ask : Ask
+  pub answer : Answer
+  pub receipt : Called
+  pub new : List Entry
+
+-- the client made this call and got this reply, as the history shows: `Client::call` ensures it
+abbrev pub IsOperationOf : ℕ → Operation → Type 0
+IsOperationOf client o = IsWitnessed client o.old o.node o.ask o.answer o.receipt o.new
+
+-- a history of a store that opened the chain with these first members. The chain has taken fewer
+-- than 2 ^ 64 steps and sent fewer than 2 ^ 64 messages
+pub record HasChain (chain : ℕ) (members : List ℕ) (log : List Entry) : Type 0 where
+  pub history : IsHistory log
+  pub opened : members_in chain log ≡ Some members
+  pub few : AreFew (lines_in chain log)
+
+-- the clients' view of the chain's run
+abbrev pub view_of_chain : ℕ → List ℕ → List Entry → Seen
+view_of_chain chain members log = seen (run_in chain members log)
+
+-- the explanation of the chain's run, with the commit index before and after each move
+abbrev pub explanation_of_chain : ℕ → List ℕ → List Entry → Explanation
+explanation_of_chain chain members log = explain chain (run_in chain members log)
+
+-- the chain's list: the committed updates, in order
+abbrev pub updates_of_chain : ℕ → List ℕ → List Entry → List Update
+updates_of_chain chain members log = committed (view_of_chain chain members log) (explanation_of_chain chain members log)
+
+-- the request of an operation is the move `asked` of its chain's run, and its reply is given in the
+-- move `answered`. The node accepted this very call under the receipt's ticket (`IsWitnessed`), so
+-- `is_call` ties the numbers to this request and to this reply. The request follows all moves that
+-- the client had seen before, and the reply is among those that it has seen since
+pub record HasMoves (o : Operation) (members : List ℕ) (log : List Entry) : Type 0 where
   pub asked : ℕ  -- the number of the move, from 1
   pub answered : ℕ
+  pub is_call : IsCallOf o.node o.ask o.receipt asked answered (run_in o.node.chain members log)
+  pub is_answer : o.receipt.answer ≡ o.answer
+  pub later : length (lines_in o.node.chain o.old) < asked
+  pub by_then : answered ≤ length (lines_in o.node.chain o.new)
+
+-- a single copy gives this reply after the first `position` updates of the chain's list: after all
+-- that were committed before the request, and none that were not committed when the reply was given
+pub record AnswersAsOneCopy (o : Operation) (members : List ℕ) (log : List Entry) : Type 0 where
+  pub moves : HasMoves o members log
   pub position : ℕ
-  pub later : length (lines_in chain old) < asked
-  pub in_order : asked ≤ answered
-  pub by_then : answered ≤ length (lines_in chain new)
-  pub not_before : committed_before (explain chain (run_in chain members log)) asked ≤ position
-  pub not_beyond : position ≤ committed_after (explain chain (run_in chain members log)) answered
-  pub is_said : IsSaid (state_at (seen (run_in chain members log)) (explain chain (run_in chain members log)) position) ask answer
+  pub not_before : committed_before (explanation_of_chain o.node.chain members log) moves.asked ≤ position
+  pub not_beyond : position ≤ committed_after (explanation_of_chain o.node.chain members log) moves.answered
+  pub is_said : IsSaid (after (take position (updates_of_chain o.node.chain members log))) o.ask o.answer

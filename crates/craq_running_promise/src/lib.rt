@@ -21,7 +21,7 @@ ghost use Rattle.craq_store_history.specs.declared.entry.Entry.{Entry};
 ghost use Rattle.craq_store_history.specs.Chains.{IsHistory};
 ghost use Rattle.craq_store_history.specs.Entries.{lines_in, members_in};
 ghost use Rattle.craq_store_parts.specs.Witnessed.{IsWitnessed};
-ghost use Rattle.craq_running_promise.specs.Standing.{AnswersAsOneCopy, IsCallOf, StandsIn, run_in};
+ghost use Rattle.craq_running_promise.specs.Standing.{AnswersAsOneCopy, HasChain, IsCallOf, IsOperationOf, Operation, StandsIn, run_in};
 
 /// States that lines in causal order, with each request of its type, have a valid explanation: the
 /// one of `explain`, with one growing list of updates and no request number twice. Each strong
@@ -56,22 +56,21 @@ pub fn witnessed_calls_are_explained()
         → IsTypedRunOf chain (run_in chain members log) × IsValid (run_in chain members log) (explain chain (run_in chain members log)) }
 {}
 
-/// The promise for a running store: states that each strong reply of a call, to an update or to a
-/// strong read, is the reply of a single copy.
+/// The promise for a running store: states that each strong reply of an operation, to an update or to
+/// a strong read, is the reply of a single copy.
 ///
 /// - `one_copy`: in each later history of the store, a single copy that has taken a prefix of the
 ///   chain's list of updates gives this reply. The prefix has all updates that were committed before
 ///   the request, and none that was not committed when the reply was given. The request follows all
 ///   that the client had seen before its call.
-/// - `in_order`: the prefix of a call is no shorter than that of a call whose history its client had
-///   seen before. So the calls of one client are in order, and so are those of two clients of which
-///   one has seen what the other saw.
+/// - `in_order`: the prefix of an operation is no shorter than that of an operation whose history its
+///   client had seen before. So the operations of one client are in order, and so are those of two
+///   clients of which one has seen what the other saw.
 ///
 /// The list only grows: `explanations_are_never_taken_back` of `craq_promise`.
 pub fn strong_replies_are_of_one_copy()
-    ensures one_copy { (client : ℕ) (old new log : List Entry) (node : NodeName) (ask : Ask) (answer : Answer) (receipt : Called) (members : List ℕ)
-        → IsWitnessed client old node ask answer receipt new → IsPrefix new log → IsHistory log → members_in node.chain log ≡ Some members → AreFew (lines_in node.chain log) → is_strong_ask ask ≡ true
-        → AnswersAsOneCopy old new node.chain members ask answer log }
-    ensures in_order { (chain : ℕ) (members : List ℕ) (log old new before after : List Entry) (ask request : Ask) (answer reply : Answer) → IsHistory log → members_in chain log ≡ Some members → AreFew (lines_in chain log)
-        → (first : AnswersAsOneCopy old new chain members ask answer log) (second : AnswersAsOneCopy before after chain members request reply log) → IsPrefix new before → IsPrefix after log → first.position ≤ second.position }
+    ensures one_copy { (client : ℕ) (o : Operation) (members : List ℕ) (log : List Entry) → IsOperationOf client o → IsPrefix o.new log → HasChain o.node.chain members log → is_strong_ask o.ask ≡ true
+        → AnswersAsOneCopy o members log }
+    ensures in_order { (o next : Operation) (members : List ℕ) (log : List Entry) → HasChain o.node.chain members log → next.node.chain ≡ o.node.chain
+        → (first : AnswersAsOneCopy o members log) (second : AnswersAsOneCopy next members log) → IsPrefix o.new next.old → IsPrefix next.new log → first.position ≤ second.position }
 {}

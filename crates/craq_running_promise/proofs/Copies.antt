@@ -1,18 +1,20 @@
 -- A strong reply of a running store is that of a single copy, between its request and itself.
-use Rattle.std.proofs.Common.{◌≡◌, ◌<◌, ◌≤◌, ℕ, zero, suc, ◌+◌, ◌-◌, Bool, true, List, [], ◌∷◌, map, length, filter, Option, Some, refl, sym, ap, subst, arith, ◌∙◌, inl, inr}
-use Rattle.std.specs.Prelude.{take}
-use Rattle.std.specs.List.{AllZip}
+use Rattle.std.proofs.Common.{◌≡◌, ◌<◌, ◌≤◌, ℕ, zero, suc, ◌+◌, ◌-◌, Bool, true, false, List, [], ◌∷◌, map, length, filter, Option, Some, refl, sym, ap, subst, arith, ◌∙◌, inl, inr}
+use Rattle.std.specs.Prelude.{option_and_then, take}
+use Rattle.std.specs.List.{AllZip, IsDistinct}
 use Rattle.std.proofs.lemmas.Bool.{cond_both}
 use mathlib.Core.List.{IsPrefix}
+use Rattle.craq_commands.specs.declared.state.State.{State}
 use Rattle.craq_commands.specs.SingleCopy.{after}
 use Rattle.craq_names.specs.declared.name.NodeName.{NodeName}
 use Rattle.craq_model.specs.declared.ask.Answer.{Answer}
 use Rattle.craq_model.specs.declared.ask.Answer.TheVariants as answers
 use Rattle.craq_model.specs.declared.ask.Ask.{Ask}
+use Rattle.craq_model.specs.declared.ask.Ask.TheVariants as asks
 use Rattle.craq_runs.specs.declared.explanation.Explanation.{Explanation}
 use Rattle.craq_runs.specs.declared.run.Run.{Run}
 use Rattle.craq_runs.specs.Seen.{Asked, Answered, Seen, ask_of, is_strong_answer, is_strong_ask, seen, strong_answers}
-use Rattle.craq_runs.specs.Valid.{IsExplained, IsSaid, IsValid, OnlyGrows, committed_after, committed_before, state_at}
+use Rattle.craq_runs.specs.Valid.{IsExplained, IsSaid, IsValid, OnlyGrows, ReadAnswer, committed_after, committed_before, look_by, look_of, same_name, state_at}
 use Rattle.craq_seat.specs.Calls.{Called}
 use Rattle.craq_seat.specs.Merge.{MergedStep}
 use Rattle.craq_causality.proofs.Orders.{IsIn, from_contains}
@@ -20,7 +22,7 @@ use Rattle.craq_causality.proofs.Walk.{taken_among}
 use Rattle.craq_store_history.specs.declared.entry.Entry.{Entry}
 use Rattle.craq_store_history.specs.Entries.{lines_in, members_in}
 use Rattle.craq_store_history.proofs.Lines.{lines_prefix}
-use Rattle.craq_running_promise.specs.Standing.{AnswersAsOneCopy, HasChain, HasMoves, IsCallOf, IsOperationOf, Operation, StandsIn, explanation_of_chain, run_in, updates_of_chain, view_of_chain}
+use Rattle.craq_running_promise.specs.Standing.{AnswersAsOneCopy, AnswersByMode, HasChain, HasMoves, IsCallOf, IsOperationOf, Operation, StandsIn, explanation_of_chain, reply_at, run_in, updates_of_chain, view_of_chain}
 use Rattle.craq_running_promise.proofs.Seen.{is_call}
 use Rattle.craq_running_promise.proofs.Standing.{has_explanation, no_longer, stands}
 
@@ -124,6 +126,52 @@ one_copy client o members log w p h strong =
     from_place o members log m
     (placed o.node o.ask o.receipt m.asked m.answered (run_in o.node.chain members log) (explanation_of_chain o.node.chain members log) m.is_call (is_explained o.node.chain members log h)
     (strong_reply (request o.node o.ask o.receipt m.asked) o.receipt.answer strong))
+
+pub only_grows : (chain : ℕ) (members : List ℕ) (log : List Entry) → HasChain chain members log → OnlyGrows (view_of_chain chain members log) (explanation_of_chain chain members log)
+only_grows chain members log h = (is_explained chain members log h).checked.list
+
+pub one_reply : (chain : ℕ) (members : List ℕ) (log : List Entry) → HasChain chain members log → IsDistinct same_name (strong_answers (view_of_chain chain members log))
+one_reply chain members log h = (is_explained chain members log h).checked.strong.once
+
+-- ---- the reply to an eventual or bounded read
+
+record IsRead (ask : Ask) (answer : Answer) : Type 0 where
+  pub read : ReadAnswer
+  pub is : look_by ask answer ≡ Some read
+
+-- a reply to a read is no update's, since no single copy gives that
+read_of : (move node : ℕ) (ticket : Option ℕ) (ask : Ask) (answer : Answer) → is_strong_ask ask ≡ false → (is_strong_answer (Some (record { move = move; node = node; ticket = ticket; ask = ask })) answer ≡ true → (state : State) × IsSaid state ask answer) → IsRead ask answer
+read_of move node ticket (asks.Update u) answer weak said = absurd (cc)
+read_of move node ticket (asks.Read mode object) (answers.Read version value) weak said = record { read = record { mode = mode; object = object; version = version; value = value }; is = refl }
+read_of move node ticket (asks.Read mode object) (answers.Update reply) weak said = absurd (said refl).1
+
+its_read : (o : Operation) (members : List ℕ) (log : List Entry) → HasMoves o members log → HasChain o.node.chain members log → is_strong_ask o.ask ≡ false → IsRead o.ask o.answer
+its_read o members log m h weak =
+    let s : Seen = view_of_chain o.node.chain members log in
+    let e : Explanation = explanation_of_chain o.node.chain members log in
+    let v = is_explained o.node.chain members log h in
+    subst (λ (x : Answer). IsRead o.ask x) m.is_answer
+    (read_of m.asked o.node.node (Some o.receipt.call.ticket) o.ask o.receipt.answer weak (λ strong.
+    let p = placed o.node o.ask o.receipt m.asked m.answered (run_in o.node.chain members log) e m.is_call v strong in (state_at s e p.position, p.is_said)))
+
+-- the read of a reply, by its request
+look_is : (s : Seen) (a : Answered) (r : Asked) (read : ReadAnswer) → ask_of s.asks a ≡ Some r → look_by r.ask a.answer ≡ Some read → look_of s a ≡ Some read
+unfolding look_of
+look_is s a r read is by = ap (option_and_then (λ (x : Asked). look_by x.ask a.answer)) is ∙ by
+
+pub by_mode : (client : ℕ) (o : Operation) (members : List ℕ) (log : List Entry) → IsOperationOf client o → IsPrefix o.new log → HasChain o.node.chain members log → is_strong_ask o.ask ≡ false → AnswersByMode o members log
+by_mode client o members log w p h weak =
+    let m = its_moves client o members log w p h in
+    let r : IsRead o.ask o.answer = its_read o members log m h weak in
+    let s : Seen = view_of_chain o.node.chain members log in
+    let v = is_explained o.node.chain members log h in
+    let a : Answered = reply_at o m.answered in
+    record {
+      moves = m;
+      read = r.read;
+      is_read = r.is;
+      holds = λ earlier rest is. v.looks earlier rest a r.read is (look_is s a (request o.node o.ask o.receipt m.asked) r.read m.is_call.is_ask r.is);
+    }
 
 -- ---- the order of two replies
 

@@ -1,4 +1,5 @@
 mod Copies
+mod Growing
 mod Orders
 mod Seen
 mod Standing

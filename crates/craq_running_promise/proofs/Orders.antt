@@ -57,7 +57,7 @@ in_first number receivers (t ∷ ts) us x i less =
       | inr k ↦ in_right here (answers_from (number + 1) more ts) x (in_first (number + 1) more ts us x k (omega (arith, less)))
     ]
 
-asks_append : (number : ℕ) (ts us : List Taken) → asks_from number (ts ++ us) ≡ asks_from number ts ++ asks_from (number + length ts) us
+pub asks_append : (number : ℕ) (ts us : List Taken) → asks_from number (ts ++ us) ≡ asks_from number ts ++ asks_from (number + length ts) us
 unfolding asks_from
 asks_append number [] us = let n : number ≡ number + 0 = omega arith in ap (λ k. asks_from k us) n
 asks_append number (t ∷ ts) us =

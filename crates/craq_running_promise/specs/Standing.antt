@@ -1,6 +1,7 @@
 -- An operation of a running store's client in the run that the store's history makes of its chain,
 -- and in the explanation of that run.
-use Rattle.std.specs.Prelude.{◌≡◌, ◌<◌, ◌≤◌, ℕ, List, Some, Contains, length, slice_get, take}
+use Rattle.std.specs.Prelude.{◌≡◌, ◌<◌, ◌≤◌, ℕ, List, ◌∷◌, ◌++◌, Some, Contains, length, slice_get, take}
+use mathlib.Core.List.{IsPrefix}
 use Rattle.craq_causality.specs.Causal.{AreFew}
 use Rattle.craq_commands.specs.declared.command.Update.{Update}
 use Rattle.craq_commands.specs.SingleCopy.{after}
@@ -12,14 +13,15 @@ use Rattle.craq_model.specs.declared.step.Out.TheVariants as outs
 use Rattle.craq_runs.specs.declared.explanation.Explanation.{Explanation}
 use Rattle.craq_runs.specs.declared.run.Run.{Run}
 use Rattle.craq_runs.specs.Explain.{explain}
-use Rattle.craq_runs.specs.Seen.{Asked, Seen, ask_with, seen}
-use Rattle.craq_runs.specs.Valid.{IsSaid, committed, committed_after, committed_before}
+use Rattle.craq_runs.specs.Seen.{Answered, Asked, Seen, ask_with, seen}
+use Rattle.craq_runs.specs.Valid.{IsSaid, LookHolds, ReadAnswer, committed, committed_after, committed_before, look_by}
 use Rattle.craq_seat.specs.Calls.{Called}
 use Rattle.craq_seat.specs.Merge.{AtNode, MergedStep, run_of}
 use Rattle.craq_store_history.specs.declared.entry.Entry.{Entry}
 use Rattle.craq_store_history.specs.Chains.{IsHistory}
 use Rattle.craq_store_history.specs.Entries.{lines_in, members_in}
 use Rattle.craq_store_parts.specs.Witnessed.{IsWitnessed}
+use Rattle.craq_updates.specs.ValidEntries.{IsBeginning}
 
 -- the run that the history makes of a chain with these first members
 abbrev pub run_in : ℕ → List ℕ → List Entry → Run
@@ -71,8 +73,8 @@ pub record Operation : Type 0 where
 abbrev pub IsOperationOf : ℕ → Operation → Type 0
 IsOperationOf client o = IsWitnessed client o.old o.node o.ask o.answer o.receipt o.new
 
--- a history of a store that opened the chain with these first members. The chain has taken fewer
--- than 2 ^ 64 steps and sent fewer than 2 ^ 64 messages
+-- a store's history in which the chain was opened with these first members, and has fewer than
+-- 2 ^ 64 steps and messages
 pub record HasChain (chain : ℕ) (members : List ℕ) (log : List Entry) : Type 0 where
   pub history : IsHistory log
   pub opened : members_in chain log ≡ Some members
@@ -110,3 +112,22 @@ pub record AnswersAsOneCopy (o : Operation) (members : List ℕ) (log : List Ent
   pub not_before : committed_before (explanation_of_chain o.node.chain members log) moves.asked ≤ position
   pub not_beyond : position ≤ committed_after (explanation_of_chain o.node.chain members log) moves.answered
   pub is_said : IsSaid (after (take position (updates_of_chain o.node.chain members log))) o.ask o.answer
+
+-- the reply of an operation, given at this move
+abbrev pub reply_at : Operation → ℕ → Answered
+reply_at o move = record { move = move; node = o.node.node; ticket = o.receipt.call.ticket; answer = o.answer }
+
+-- the operation is a read, and its reply meets the guarantee of its mode, beside the replies that
+-- the run has before it (`LookHolds`: `IsEventual` of an eventual read, `IsBounded` of a bounded one)
+pub record AnswersByMode (o : Operation) (members : List ℕ) (log : List Entry) : Type 0 where
+  pub moves : HasMoves o members log
+  pub read : ReadAnswer
+  pub is_read : look_by o.ask o.answer ≡ Some read
+  pub holds : (earlier rest : List Answered) → earlier ++ reply_at o moves.answered ∷ rest ≡ (view_of_chain o.node.chain members log).answers
+      → LookHolds (view_of_chain o.node.chain members log) (explanation_of_chain o.node.chain members log) earlier (reply_at o moves.answered) read.mode read
+
+-- the chain's list in one history is a prefix of its list in another; and so are the commit indexes
+-- and the linearization points
+pub record ListGrows (chain : ℕ) (members : List ℕ) (log more : List Entry) : Type 0 where
+  pub updates : IsPrefix (updates_of_chain chain members log) (updates_of_chain chain members more)
+  pub kept : IsBeginning (explanation_of_chain chain members log) (explanation_of_chain chain members more)

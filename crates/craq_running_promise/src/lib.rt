@@ -4,15 +4,16 @@
 //! States laws: functions without bodies, whose contracts are the theorems.
 #![tactic(auto)]
 
-ghost use Rattle.std.specs.Prelude.{◌≡◌, ◌≤◌, ℕ, suc, true, List, Some};
+ghost use Rattle.std.specs.Prelude.{◌≡◌, ◌≤◌, ℕ, suc, false, true, List, Some};
+ghost use Rattle.std.specs.List.{IsDistinct};
 ghost use mathlib.Core.List.{IsPrefix};
 ghost use Rattle.craq_names.specs.declared.name.NodeName.{NodeName};
 ghost use Rattle.craq_model.specs.declared.ask.Answer.{Answer};
 ghost use Rattle.craq_model.specs.declared.ask.Ask.{Ask};
 ghost use Rattle.craq_runs.specs.Explain.{explain};
-ghost use Rattle.craq_runs.specs.Seen.{is_strong_ask};
+ghost use Rattle.craq_runs.specs.Seen.{is_strong_ask, strong_answers};
 ghost use Rattle.craq_runs.specs.Typed.{IsTypedRunOf};
-ghost use Rattle.craq_runs.specs.Valid.{IsValid};
+ghost use Rattle.craq_runs.specs.Valid.{IsValid, OnlyGrows, same_name};
 ghost use Rattle.craq_seat.specs.Calls.{Called};
 ghost use Rattle.craq_seat.specs.Merge.{MergedStep, run_of};
 ghost use Rattle.craq_causality.specs.Causal.{AreCausal, AreFew, AreTyped};
@@ -21,7 +22,7 @@ ghost use Rattle.craq_store_history.specs.declared.entry.Entry.{Entry};
 ghost use Rattle.craq_store_history.specs.Chains.{IsHistory};
 ghost use Rattle.craq_store_history.specs.Entries.{lines_in, members_in};
 ghost use Rattle.craq_store_parts.specs.Witnessed.{IsWitnessed};
-ghost use Rattle.craq_running_promise.specs.Standing.{AnswersAsOneCopy, HasChain, IsCallOf, IsOperationOf, Operation, StandsIn, run_in};
+ghost use Rattle.craq_running_promise.specs.Standing.{AnswersAsOneCopy, AnswersByMode, HasChain, IsCallOf, IsOperationOf, ListGrows, Operation, StandsIn, explanation_of_chain, run_in, view_of_chain};
 
 /// States that lines in causal order, with each request of its type, have a valid explanation: the
 /// one of `explain`, with one growing list of updates and no request number twice. Each strong
@@ -56,21 +57,35 @@ pub fn witnessed_calls_are_explained()
         → IsTypedRunOf chain (run_in chain members log) × IsValid (run_in chain members log) (explain chain (run_in chain members log)) }
 {}
 
-/// The promise for a running store: states that each strong reply of an operation, to an update or to
-/// a strong read, is the reply of a single copy.
+/// The promise for a running store: states that one growing list of updates explains all replies of
+/// its chain. Each strong reply, to an update or to a strong read, is that of a single copy after a
+/// prefix of the list. An operation is a call with its reply, as `Client::call` ensures it.
 ///
 /// - `one_copy`: in each later history of the store, a single copy that has taken a prefix of the
-///   chain's list of updates gives this reply. The prefix has all updates that were committed before
-///   the request, and none that was not committed when the reply was given. The request follows all
-///   that the client had seen before its call.
-/// - `in_order`: the prefix of an operation is no shorter than that of an operation whose history its
+///   chain's list of updates gives this strong reply. The prefix has all updates that were committed
+///   before the request, and none that was not committed when the reply was given. The request
+///   follows all that the client had seen before its call.
+/// - `in_order`: the prefix of a strong operation is no shorter than that of one whose history its
 ///   client had seen before. So the operations of one client are in order, and so are those of two
 ///   clients of which one has seen what the other saw.
-///
-/// The list only grows: `explanations_are_never_taken_back` of `craq_promise`.
+/// - `eventual`: each other reply is to an eventual or a bounded read, and meets the guarantee of its
+///   mode. An eventual reply is the object after a list of requested updates that begins with the
+///   committed ones. A bounded reply is the object after a prefix of such a list, at most its bound
+///   above the committed version. `IsEventual` and `IsBounded` say how old a reply may be beside
+///   earlier ones of its node.
+/// - `once`: no request number stands in the list twice. Each update was requested before it was
+///   committed; the commit index never falls, and ends at the length of the list.
+/// - `one_reply`: no request has two strong replies.
+/// - `grows`: the list in a history is a prefix of the list in each later one. So are the commit
+///   indexes and the linearization points: nothing is explained in another way later.
 pub fn strong_replies_are_of_one_copy()
     ensures one_copy { (client : ℕ) (o : Operation) (members : List ℕ) (log : List Entry) → IsOperationOf client o → IsPrefix o.new log → HasChain o.node.chain members log → is_strong_ask o.ask ≡ true
         → AnswersAsOneCopy o members log }
     ensures in_order { (o next : Operation) (members : List ℕ) (log : List Entry) → HasChain o.node.chain members log → next.node.chain ≡ o.node.chain
         → (first : AnswersAsOneCopy o members log) (second : AnswersAsOneCopy next members log) → IsPrefix o.new next.old → IsPrefix next.new log → first.position ≤ second.position }
+    ensures eventual { (client : ℕ) (o : Operation) (members : List ℕ) (log : List Entry) → IsOperationOf client o → IsPrefix o.new log → HasChain o.node.chain members log → is_strong_ask o.ask ≡ false
+        → AnswersByMode o members log }
+    ensures once { (chain : ℕ) (members : List ℕ) (log : List Entry) → HasChain chain members log → OnlyGrows (view_of_chain chain members log) (explanation_of_chain chain members log) }
+    ensures one_reply { (chain : ℕ) (members : List ℕ) (log : List Entry) → HasChain chain members log → IsDistinct same_name (strong_answers (view_of_chain chain members log)) }
+    ensures grows { (chain : ℕ) (members : List ℕ) (log more : List Entry) → HasChain chain members log → HasChain chain members more → IsPrefix log more → ListGrows chain members log more }
 {}

@@ -1,4 +1,5 @@
-use Rattle.craq_running_promise.proofs.Copies.{no_older, one_copy}
+use Rattle.craq_running_promise.proofs.Copies.{by_mode, no_older, one_copy, one_reply, only_grows}
+use Rattle.craq_running_promise.proofs.Growing.{grows}
 use Rattle.craq_running_promise.proofs.strong_replies_are_of_one_copy.Goals as goal
 
 pub returns-clause-one_copy : goal.returns-clause-one_copy
@@ -6,3 +7,15 @@ returns-clause-one_copy c = λ client o members log w p h strong. one_copy clien
 
 pub returns-clause-in_order : goal.returns-clause-in_order
 returns-clause-in_order c = λ o next members log h same first second p q. no_older o next members log h same first second p q
+
+pub returns-clause-eventual : goal.returns-clause-eventual
+returns-clause-eventual c = λ client o members log w p h weak. by_mode client o members log w p h weak
+
+pub returns-clause-once : goal.returns-clause-once
+returns-clause-once c = λ chain members log h. only_grows chain members log h
+
+pub returns-clause-one_reply : goal.returns-clause-one_reply
+returns-clause-one_reply c = λ chain members log h. one_reply chain members log h
+
+pub returns-clause-grows : goal.returns-clause-grows
+returns-clause-grows c = λ chain members log more h k p. grows chain members log more h k p

@@ -22,7 +22,7 @@ use Rattle.craq_causality.proofs.Walk.{taken_among}
 use Rattle.craq_store_history.specs.declared.entry.Entry.{Entry}
 use Rattle.craq_store_history.specs.Entries.{lines_in, members_in}
 use Rattle.craq_store_history.proofs.Lines.{lines_prefix}
-use Rattle.craq_running_promise.specs.Standing.{AnswersAsOneCopy, AnswersByMode, HasChain, HasMoves, IsCallOf, IsOperationOf, Operation, StandsIn, explanation_of_chain, reply_at, run_in, updates_of_chain, view_of_chain}
+use Rattle.craq_running_promise.specs.Standing.{AnswersAsOneCopy, AnswersByMode, HasChain, HasMoves, IsCallInRun, IsOperationOf, Operation, IsCallInHistory, explanation_of_chain, reply_at, run_in, updates_of_chain, view_of_chain}
 use Rattle.craq_running_promise.proofs.Seen.{is_call}
 use Rattle.craq_running_promise.proofs.Standing.{has_explanation, no_longer, stands}
 
@@ -65,7 +65,7 @@ pub record HasPlace (node : NodeName) (ask : Ask) (receipt : Called) (asked answ
   pub not_beyond : position ≤ committed_after e answered
   pub is_said : IsSaid (state_at s e position) ask receipt.answer
 
-placed : (node : NodeName) (ask : Ask) (receipt : Called) (asked answered : ℕ) (run : Run) (e : Explanation) → IsCallOf node ask receipt asked answered run → IsValid run e → is_strong_answer (Some (request node ask receipt asked)) receipt.answer ≡ true → HasPlace node ask receipt asked answered (seen run) e
+placed : (node : NodeName) (ask : Ask) (receipt : Called) (asked answered : ℕ) (run : Run) (e : Explanation) → IsCallInRun node ask receipt asked answered run → IsValid run e → is_strong_answer (Some (request node ask receipt asked)) receipt.answer ≡ true → HasPlace node ask receipt asked answered (seen run) e
 unfolding strong_answers
 placed node ask receipt asked answered run e c v strong =
     let s : Seen = seen run in
@@ -87,16 +87,16 @@ same_members : (o : Option (List ℕ)) (xs ys : List ℕ) → o ≡ Some xs → 
 same_members o xs ys h k = cc
 
 -- the moves of an operation whose request and reply stand in the history
-moves_of : (o : Operation) (members : List ℕ) (log : List Entry) → HasChain o.node.chain members log → (s : StandsIn o.old o.new o.node o.ask o.receipt log) → o.receipt.answer ≡ o.answer → HasMoves o members log
+moves_of : (o : Operation) (members : List ℕ) (log : List Entry) → HasChain o.node.chain members log → (s : IsCallInHistory o.old o.new o.node o.ask o.receipt log) → o.receipt.answer ≡ o.answer → HasMoves o members log
 moves_of o members log h s is =
-    let call : IsCallOf o.node o.ask o.receipt (suc s.asked_place) (suc s.answered_place) (run_in o.node.chain s.members log) = is_call o.old o.new log o.node o.ask o.receipt s h.history h.few in
+    let call : IsCallInRun o.node o.ask o.receipt (suc s.asked_place) (suc s.answered_place) (run_in o.node.chain s.members log) = is_call o.old o.new log o.node o.ask o.receipt s h.history h.few in
     let same : s.members ≡ members = same_members (members_in o.node.chain log) s.members members s.opened h.opened in
     let later = s.later in
     let by_then = s.by_then in
     record {
       asked = suc s.asked_place;
       answered = suc s.answered_place;
-      is_call = subst (λ (ms : List ℕ). IsCallOf o.node o.ask o.receipt (suc s.asked_place) (suc s.answered_place) (run_in o.node.chain ms log)) same call;
+      is_call = subst (λ (ms : List ℕ). IsCallInRun o.node o.ask o.receipt (suc s.asked_place) (suc s.answered_place) (run_in o.node.chain ms log)) same call;
       is_answer = is;
       later = omega (arith, later);
       by_then = omega (arith, by_then);

@@ -28,7 +28,7 @@ use Rattle.craq_merge.proofs.Seen.{answered_at, asked_at}
 use Rattle.craq_store_history.specs.declared.entry.Entry.{Entry}
 use Rattle.craq_store_history.specs.Chains.{ChainHolds, IsHistory}
 use Rattle.craq_store_history.specs.Entries.{lines_in, members_in}
-use Rattle.craq_running_promise.specs.Standing.{IsCallOf, StandsIn, run_in}
+use Rattle.craq_running_promise.specs.Standing.{IsCallInRun, IsCallInHistory, run_in}
 use Rattle.craq_running_promise.proofs.Orders.{among_first, cut}
 
 -- ---- places of lines
@@ -170,8 +170,8 @@ in_order chain members moves asked x at move within typed is there =
     (subst (λ (l : List Taken). ask_with (asks_from 1 l) x.node x.ticket ≡ Some asked) c.is is) (subst (λ (l : List Taken). IsIn (answers_from 1 [] l) x) c.is there) (omega (arith, move, long)) in
     omega (arith, le, long)
 
-pub is_call : (old new log : List Entry) (node : NodeName) (ask : Ask) (receipt : Called) (s : StandsIn old new node ask receipt log) → IsHistory log → AreFew (lines_in node.chain log)
-    → IsCallOf node ask receipt (suc s.asked_place) (suc s.answered_place) (run_in node.chain s.members log)
+pub is_call : (old new log : List Entry) (node : NodeName) (ask : Ask) (receipt : Called) (s : IsCallInHistory old new node ask receipt log) → IsHistory log → AreFew (lines_in node.chain log)
+    → IsCallInRun node ask receipt (suc s.asked_place) (suc s.answered_place) (run_in node.chain s.members log)
 is_call old new log node ask receipt s h few =
     let lines : List MergedStep = lines_in node.chain log in
     let moves : List Taken = map (taken_among lines) lines in

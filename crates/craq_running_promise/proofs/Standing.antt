@@ -30,7 +30,7 @@ use Rattle.craq_store_history.proofs.Between.{accepted_later, called_once, may_c
 use Rattle.craq_store_history.proofs.Lines.{lines_append, lines_prefix}
 use Rattle.craq_store_parts.specs.Recorded.{HasTaken}
 use Rattle.craq_store_parts.specs.Witnessed.{IsWitnessed}
-use Rattle.craq_running_promise.specs.Standing.{StandsIn}
+use Rattle.craq_running_promise.specs.Standing.{IsCallInHistory}
 
 -- ---- lists
 
@@ -154,7 +154,7 @@ module _ (client : ℕ) (old new log : List Entry) (node : NodeName) (ask : Ask)
   asked_is : lines_in node.chain log ≡ lines_in node.chain asked.before ++ asked_line ∷ lines_in node.chain asked.rest
   asked_is = ap (lines_in node.chain) asked.is ∙ lines_at node w.accepted.stamp taken.0 w.accepted.pass taken.1 (Some w.call) asked.before asked.rest
 
-  by_members : (o : Option (List ℕ)) → members_in node.chain log ≡ o → ChainHolds node.chain o (lines_in node.chain log) → StandsIn old new node ask receipt log
+  by_members : (o : Option (List ℕ)) → members_in node.chain log ≡ o → ChainHolds node.chain o (lines_in node.chain log) → IsCallInHistory old new node ask receipt log
   by_members None is none = absurd (from_contains [] asked_line (subst (λ (l : List MergedStep). Contains l asked_line) (sym asked_is ∙ none) (in_here (lines_in node.chain asked.before) asked_line (lines_in node.chain asked.rest))))
   by_members (Some members) is holds = record {
     members = members;
@@ -176,7 +176,7 @@ module _ (client : ℕ) (old new log : List Entry) (node : NodeName) (ask : Ask)
     by_then = below_length (lines_in node.chain new) (lines_in node.chain its_reply.before) answer_line (lines_in node.chain its_reply.rest) reply_is;
   }
 
-  pub stands : StandsIn old new node ask receipt log × (receipt.answer ≡ answer)
+  pub stands : IsCallInHistory old new node ask receipt log × (receipt.answer ≡ answer)
   stands = (by_members (members_in node.chain log) refl (h.chains node.chain), w.answered)
 
 whole : {X : Type 0} (xs : List X) → IsPrefix xs xs
@@ -184,7 +184,7 @@ whole xs = ([], append-nil xs)
 
 pub together : (client other : ℕ) (old new before after : List Entry) (node at : NodeName) (ask request : Ask) (answer reply : Answer) (receipt its : Called)
     → IsWitnessed client old node ask answer receipt new → IsWitnessed other before at request reply its after → AreComparable new after
-    → (log : List Entry) × IsHistory log × IsPrefix new log × IsPrefix after log × StandsIn old new node ask receipt log × StandsIn before after at request its log
+    → (log : List Entry) × IsHistory log × IsPrefix new log × IsPrefix after log × IsCallInHistory old new node ask receipt log × IsCallInHistory before after at request its log
 together client other old new before after node at ask request answer reply receipt its w v (inl p) =
     (after, v.history, p, whole after, (stands client old new after node ask answer receipt w p v.history).0, (stands other before after after at request reply its v (whole after) v.history).0)
 together client other old new before after node at ask request answer reply receipt its w v (inr p) =

@@ -30,7 +30,7 @@ run_in chain members log = run_of members (lines_in chain log)
 -- in the lines of its chain the node accepted the request under the receipt's ticket, after all
 -- lines of `old`; and it gave the receipt's answer under that ticket, in the line of the receipt's
 -- stamp, which is among the lines of `new`
-pub record StandsIn (old new : List Entry) (node : NodeName) (ask : Ask) (receipt : Called) (log : List Entry) : Type 0 where
+pub record IsCallInHistory (old new : List Entry) (node : NodeName) (ask : Ask) (receipt : Called) (log : List Entry) : Type 0 where
   pub members : List ℕ
   pub opened : members_in node.chain log ≡ Some members
   pub asked_place : ℕ
@@ -51,7 +51,7 @@ pub record StandsIn (old new : List Entry) (node : NodeName) (ask : Ask) (receip
 -- clients see the request of a call at the move `asked` of a run, and its reply at the move
 -- `answered`, no earlier; moves count from 1. The receipt's ticket ties both to the call: no other
 -- request at the node has it, and the reply is given under it
-pub record IsCallOf (node : NodeName) (ask : Ask) (receipt : Called) (asked answered : ℕ) (run : Run) : Type 0 where
+pub record IsCallInRun (node : NodeName) (ask : Ask) (receipt : Called) (asked answered : ℕ) (run : Run) : Type 0 where
   pub is_ask : ask_with (seen run).asks node.node receipt.call.ticket ≡ Some (record { move = asked; node = node.node; ticket = Some receipt.call.ticket; ask = ask })
   pub only : (other : Asked) → Contains (seen run).asks other → other.node ≡ node.node → other.ticket ≡ Some receipt.call.ticket → other.move ≡ asked
   pub is_answer : Contains (seen run).answers (record { move = answered; node = node.node; ticket = receipt.call.ticket; answer = receipt.answer })
@@ -99,7 +99,7 @@ updates_of_chain chain members log = committed (view_of_chain chain members log)
 pub record HasMoves (o : Operation) (members : List ℕ) (log : List Entry) : Type 0 where
   pub asked : ℕ  -- the number of the move, from 1
   pub answered : ℕ
-  pub is_call : IsCallOf o.node o.ask o.receipt asked answered (run_in o.node.chain members log)
+  pub is_call : IsCallInRun o.node o.ask o.receipt asked answered (run_in o.node.chain members log)
   pub is_answer : o.receipt.answer ≡ o.answer
   pub later : length (lines_in o.node.chain o.old) < asked
   pub by_then : answered ≤ length (lines_in o.node.chain o.new)

@@ -22,7 +22,7 @@ ghost use Rattle.craq_store_history.specs.declared.entry.Entry.{Entry};
 ghost use Rattle.craq_store_history.specs.Chains.{IsHistory};
 ghost use Rattle.craq_store_history.specs.Entries.{lines_in, members_in};
 ghost use Rattle.craq_store_parts.specs.Witnessed.{IsWitnessed};
-ghost use Rattle.craq_running_promise.specs.Standing.{AnswersAsOneCopy, AnswersByMode, HasChain, IsCallOf, IsOperationOf, ListGrows, Operation, StandsIn, explanation_of_chain, run_in, view_of_chain};
+ghost use Rattle.craq_running_promise.specs.Standing.{AnswersAsOneCopy, AnswersByMode, HasChain, IsCallInRun, IsOperationOf, ListGrows, Operation, IsCallInHistory, explanation_of_chain, run_in, view_of_chain};
 
 /// States that lines in causal order, with each request of its type, have a valid explanation: the
 /// one of `explain`, with one growing list of updates and no request number twice. Each strong
@@ -47,12 +47,12 @@ pub fn causal_lines_are_explained()
 ///   twice, and a guarantee for each reply.
 pub fn witnessed_calls_are_explained()
     ensures stands { (client : ℕ) (old new log : List Entry) (node : NodeName) (ask : Ask) (answer : Answer) (receipt : Called)
-        → IsWitnessed client old node ask answer receipt new → IsPrefix new log → IsHistory log → StandsIn old new node ask receipt log × (receipt.answer ≡ answer) }
+        → IsWitnessed client old node ask answer receipt new → IsPrefix new log → IsHistory log → IsCallInHistory old new node ask receipt log × (receipt.answer ≡ answer) }
     ensures together { (client other : ℕ) (old new before after : List Entry) (node at : NodeName) (ask request : Ask) (answer reply : Answer) (receipt its : Called)
         → IsWitnessed client old node ask answer receipt new → IsWitnessed other before at request reply its after → AreComparable new after
-        → (log : List Entry) × IsHistory log × IsPrefix new log × IsPrefix after log × StandsIn old new node ask receipt log × StandsIn before after at request its log }
-    ensures called { (old new log : List Entry) (node : NodeName) (ask : Ask) (receipt : Called) (s : StandsIn old new node ask receipt log) → IsHistory log → AreFew (lines_in node.chain log)
-        → IsCallOf node ask receipt (suc s.asked_place) (suc s.answered_place) (run_in node.chain s.members log) }
+        → (log : List Entry) × IsHistory log × IsPrefix new log × IsPrefix after log × IsCallInHistory old new node ask receipt log × IsCallInHistory before after at request its log }
+    ensures called { (old new log : List Entry) (node : NodeName) (ask : Ask) (receipt : Called) (s : IsCallInHistory old new node ask receipt log) → IsHistory log → AreFew (lines_in node.chain log)
+        → IsCallInRun node ask receipt (suc s.asked_place) (suc s.answered_place) (run_in node.chain s.members log) }
     ensures explained { (log : List Entry) (chain : ℕ) (members : List ℕ) → IsHistory log → members_in chain log ≡ Some members → AreFew (lines_in chain log)
         → IsTypedRunOf chain (run_in chain members log) × IsValid (run_in chain members log) (explain chain (run_in chain members log)) }
 {}

@@ -14,7 +14,7 @@ CLAIMS = (("Every run is explained", "craq_promise/src/lib.rt", "every_run_is_ex
           ("An audit that merges found a run", "craq_audit/src/auditing.rt", "audit", ""),
           ("The replies of a connection", "craq_front/src/serving.rt", "serve", ""),
           ("A chain recovers", "craq_recovery/src/lib.rt", "chains_recover", ""),
-          ("A running store's strong replies are a single copy's", "craq_running_promise/src/lib.rt",
+          ("One list explains a running store's replies", "craq_running_promise/src/lib.rt",
            "strong_replies_are_of_one_copy", ""),
           ("A call's reply is in the history", "craq_workers/src/client.rt", "call", "Client::call"),
           ("A connection's replies are in the history", "craq_server/src/own_thread.rt",

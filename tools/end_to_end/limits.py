@@ -1,11 +1,13 @@
 """Tries a server at its limits: too many connections, idle ones, a pass that leaps, the end of its standard input."""
 import re
 import resource
+import signal
 import socket
 import subprocess
+import tempfile
 import time
 
-from tools.end_to_end import running
+from tools.end_to_end import running, signals
 from tools.end_to_end.bad_input import framed, rest, taken
 
 LEAP = 1_048_576
@@ -124,6 +126,26 @@ def leaps(checks, craqd):
         server.finish(checks, "a server after such passes", "audit merged 3\naudit merged 0\n")
 
 
+def invented(checks, craqd):
+    """./serve keeps out an invented pass, which would use up its chain's numbers."""
+    with tempfile.TemporaryDirectory(prefix="end-to-end-") as room, running.text_file(running.PLAN) as plan:
+        signals.top_with(craqd, room)
+        process = subprocess.Popen([f"{room}/serve", *running.OPTIONS, plan.name, "127.0.0.1:0"], stdin=subprocess.DEVNULL,
+                                   stdout=subprocess.PIPE, stderr=subprocess.PIPE, text=True, start_new_session=True)
+        try:
+            port = int(process.stdout.readline().removeprefix("listening "))
+            with socket.create_connection(("127.0.0.1", port), running.PATIENCE) as made:
+                for shown, kind in (2 ** 64 - 2, 3), (2 ** 32, 3), (0, 2), (1_234_567_890, 2):
+                    made.sendall(read_of(3, shown))
+                    found = reply(made)
+                    checks.same(f"./serve: a read with pass {shown}", (found[1], found[2] == 13 if kind == 3 else True), (kind, True))
+            process.send_signal(signal.SIGTERM)
+            process.communicate(timeout=running.PATIENCE)
+            checks.same("./serve after such passes", process.returncode, 0)
+        finally:
+            signals.ends(process)
+
+
 def kept(checks, craqd):
     """A pass that a client kept from an earlier server is taken, and the replies go on from it; one at the end of its numbers is refused and
     disables nothing."""
@@ -211,5 +233,5 @@ def log(checks, craqd):
 
 
 def tried(checks, craqd):
-    for part in most, many, idle, leaps, kept, input_ends, journals, log:
+    for part in most, many, idle, leaps, invented, kept, input_ends, journals, log:
         checks.part(f"limits: {part.__name__.replace('_', ' ')}", part, craqd)

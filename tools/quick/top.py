@@ -23,7 +23,9 @@ from tools.checks import Checks
 SCRIPTS = ("serve", "play", "build", "plant", "refuse", "release", "hostile", "test")
 PROGRAMS = ("craq_lab", "craqd", "craq")
 PATIENCE = 30
-NO_RT = "needs Rattle's command rt on the path\n"
+# The bound on passes that ./serve sets.
+LEAP = "--most-leap 4294967295"
+NO_RT = "needs Rattle's command rt on the path"
 
 # The stub of rt: it notes its words, and runs the file of the command's name beside it.
 RT = """#!/usr/bin/env bash
@@ -134,12 +136,18 @@ def has_no_rt(checks, clone):
     """Without rt each script that needs it says so."""
     for name in "serve", "play", "build", "plant", "test":
         status, _, err = clone.ran(name, has_rt=False)
-        checks.same(f"./{name} without rt", (status, err.partition(": ")[2]), (1, NO_RT))
+        told = re.split("[,\n]", err.partition(": ")[2])[0]
+        checks.same(f"./{name} without rt", (status, told), (1, NO_RT))
 
 
 def loops():
     """Returns the number of event loops that ./serve asks for."""
     return max(1, len(os.sched_getaffinity(0)) // 2)
+
+
+def defaults():
+    """Returns the options that ./serve adds."""
+    return f"--threads {loops()} {LEAP}"
 
 
 def told(clone, connect="--connect 127.0.0.1:7123 "):
@@ -171,7 +179,7 @@ def serve_unproved(checks, clone):
             out, err = it.communicate(timeout=PATIENCE)
             checks.same("how it ends", (out, it.returncode), ("audit merged 0\n", 3))
             checks.same("how often it says that it is not proved", err.count("WITHOUT its proofs"), 1 + built)
-            checks.that(f"--until-input-ends --threads {loops()} {plan} 127.0.0.1:7000\n" in err,
+            checks.that(f"--until-input-ends {defaults()} {plan} 127.0.0.1:7000\n" in err,
                         f"what the server is given: {err}")
         finally:
             it.kill()
@@ -188,8 +196,11 @@ def serve_unproved(checks, clone):
     clone.builds_unproved("exit 4\n")
     status, out, err = clone.ran("serve", plan, "127.0.0.1:7001")
     checks.same("a server that cannot listen", (status, out), (4, ""))
-    checks.that(err.endswith("nothing can listen at 127.0.0.1:7001; with 127.0.0.1:0 the system chooses a "
-                             "free port\n"), f"what it tells: {err}")
+    ending = "; with 127.0.0.1:0 the system chooses a free port\n"
+    checks.that(err.endswith("nothing can listen at 127.0.0.1:7001" + ending), f"what it tells: {err}")
+    _, _, err = clone.ran("serve", "--metrics", "127.0.0.1:7104", plan, "127.0.0.1:7001")
+    checks.that(err.endswith("listen at 127.0.0.1:7001, or at 127.0.0.1:7104 of --metrics" + ending),
+                f"what it tells of two addresses: {err}")
 
 
 def serve_build_ended(checks, clone):
@@ -216,19 +227,9 @@ def serve_proved(checks, clone):
     clone.words()
     status, out, _ = clone.ran("serve", plan, "127.0.0.1:7123")
     lines = out.splitlines()
-    threads = f"--threads {loops()}"
     checks.same("the proved server", (status, lines[0], lines[-1]),
-                (0, "listening 7123", f"5: --until-input-ends {threads} {plan} 127.0.0.1:7123"))
+                (0, "listening 7123", f"7: --until-input-ends {defaults()} {plan} 127.0.0.1:7123"))
     checks.same("its commands", lines[1:5], told(clone))
-    _, out, _ = clone.ran("serve", "--journal", "--until-input-ends", "--most", "9", plan)
-    checks.same("its options", out.splitlines()[-1],
-                f"8: --until-input-ends --journal --most 9 {threads} {plan} 127.0.0.1:7000")
-    _, out, _ = clone.ran("serve", "--threads", "0", plan, "127.0.0.1:0")
-    checks.same("threads that are given", out.splitlines()[-1],
-                f"5: --until-input-ends --threads 0 {plan} 127.0.0.1:0")
-    for option in valued_options():
-        _, out, _ = clone.ran("serve", option, "7", plan)
-        checks.that(f" {option} 7 " in out.splitlines()[-1], f"./serve {option} 7 PLAN: {out}")
     clone.built("craqd", 'echo "listening 7000"\n')
     _, out, _ = clone.ran("serve")
     checks.same("commands at the default address", out.splitlines()[1:], told(clone, ""))
@@ -246,6 +247,37 @@ def serve_proved(checks, clone):
     checks.same("after a change of the sources", clone.ran("serve")[0], 1)
     checks.that(clone.words() != [], "it builds after a change of the sources")
     clone.write(source, "//! A program.\n")
+
+
+def serve_words(checks, clone):
+    """./serve passes options of craqd on, wherever they stand, and refuses other words."""
+    clone.built("craqd", 'echo "listening 7123"; echo "$#: $*"\n')
+    plan = os.path.join(clone.top, "examples", "plan.toml")
+    clone.words()
+    for words, given in (
+            (["--journal", "--until-input-ends", "--most", "9", plan],
+             f"10: --until-input-ends --journal --most 9 {defaults()} {plan} 127.0.0.1:7000"),
+            (["--threads", "0", plan, "127.0.0.1:0"],
+             f"7: --until-input-ends --threads 0 {LEAP} {plan} 127.0.0.1:0"),
+            ([plan, "--threads=2", "127.0.0.1:0", "--log"],
+             f"8: --until-input-ends --threads 2 --log {LEAP} {plan} 127.0.0.1:0"),
+            (["--most-leap", "0", "--", plan],
+             f"7: --until-input-ends --most-leap 0 --threads {loops()} {plan} 127.0.0.1:7000")):
+        checks.same(f"./serve {' '.join(words)}", clone.ran("serve", *words)[1].splitlines()[-1], given)
+    for option in valued_options():
+        for words in [option, "7"], [f"{option}=7"]:
+            _, out, _ = clone.ran("serve", *words, plan)
+            last = out.splitlines()[-1]
+            checks.that(last.count(f" {option} ") == 1 and f" {option} 7 " in last,
+                        f"./serve {words} PLAN: {out}")
+    for words, fault in (
+            (["--thread", "2"], "there is no option --thread"), (["-x"], "there is no option -x"),
+            (["--journal=yes"], "there is no option --journal=yes"),
+            ([plan, "127.0.0.1:0", "more"], "expected a plan and an address at most, and found 'more' too"),
+            ([plan, "--most"], "--most takes a value")):
+        checks.same(f"./serve {' '.join(words)}", clone.ran("serve", *words),
+                    (2, "", f"serve: {fault}; see ./serve --help\n"))
+    checks.same("nothing is built for these words", clone.words(), [])
 
 
 def serve_control(checks, clone):
@@ -302,8 +334,9 @@ def play(checks, clone):
                 [f"craq_lab: try --data script={sample} -- play script",
                  f"craq_lab: try --data script={script} -- play --nodes 2 script"])
     clone.built("craq_lab", 'echo "$*"; exit 3\n')
-    checks.same("the proved program", clone.ran("play", "--core", "plain", script),
-                (3, f"play --core plain {script}\n", ""))
+    for has_rt in True, False:
+        checks.same("the proved program", clone.ran("play", "--core", "plain", script, has_rt=has_rt),
+                    (3, f"play --core plain {script}\n", ""))
     clone.words()
     status, out, _ = clone.ran("play", "--help")
     checks.that(status == 0 and out.startswith("Plays a script") and clone.words() == [],
@@ -493,7 +526,8 @@ def test_without_cc(checks, clone):
 
 def main():
     checks = Checks("top")
-    serving = has_no_rt, serve_unproved, serve_build_ended, serve_proved, serve_control, serve_ends
+    serving = (has_no_rt, serve_unproved, serve_build_ended, serve_proved, serve_words, serve_control,
+               serve_ends)
     for part in *serving, play, build, plant, refuse, release, hostile, test:
         with tempfile.TemporaryDirectory(prefix="top-") as room:
             checks.part(part.__doc__, part, Clone(os.path.realpath(room)))

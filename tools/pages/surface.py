@@ -151,10 +151,19 @@ def rows():
     return found
 
 
+def any_type(depth):
+    """Returns a pattern of one type: it has no comma outside brackets, which nest at most this deep."""
+    inside = r"[^<>()\[\]]"
+    for _ in range(depth - 1):
+        inside = rf"(?:[^<>()\[\]]|[<(\[]{inside}*[>)\]])"
+    return rf"(?:[^,<>()\[\]]|[<(\[]{inside}*[>)\]])+"
+
+
 def is_like(found, wanted):
-    """Reports whether a signature is the wanted one, in which '_' stands for any type."""
-    pattern = re.escape(wanted).replace(r"\ ", " ")
-    return bool(re.fullmatch(re.sub(r"(?<![\w&])_(?!\w)", ".+?", pattern), found))
+    """Reports whether a signature is the wanted one, in which '_' stands for any one type."""
+    found, wanted = (it.replace("->", "→") for it in (found, wanted))
+    parts = re.split(r"(?<![\w&])_(?!\w)", wanted)
+    return bool(re.fullmatch(any_type(5).join(map(re.escape, parts)), found))
 
 
 def call_is_there(checks, crate, line, sources):

@@ -76,6 +76,12 @@ class Copy:
     def path(self, *parts):
         return os.path.join(self.top, *parts)
 
+    def has_too(self, crate):
+        """Copies the sources of one more crate."""
+        shutil.copytree(repository.path("crates", crate, "src"), self.path("crates", crate, "src"))
+        with open(self.path("crates.txt"), "a", encoding="utf-8") as it:
+            it.write(f"{crate}:\n")
+
     def changed(self, name, old, new):
         """Replaces a text of a file that stands there once."""
         with open(self.path(name), "rb") as it:
@@ -167,11 +173,16 @@ def refused_phrase(checks, room):
 
 
 def missing_call(checks, room):
-    """A public call of the specification that is private, or has another signature."""
-    copy, file = Copy(room), f"crates/{CRATE}/src/number.rt"
+    """A public call of the specification that is private, or has another signature. Of one of them a
+    second crate has a namesake with more arguments, which does not stand for it."""
+    copy, numbers = Copy(room), f"crates/{CRATE}/src/number.rt"
+    copy.has_too("craq_server")
+    copy.has_too("craq_metrics")
     before = copy.part("tools.pages.surface", "surface")
-    for old, new in (b"pub fn next(self)", b"fn next(self)"), (b"pub fn join(self, other: Pass)",
-                                                               b"pub fn join(self, other: u64)"):
+    for file, old, new in (
+            (numbers, b"pub fn next(self)", b"fn next(self)"),
+            (numbers, b"pub fn join(self, other: Pass)", b"pub fn join(self, other: u64)"),
+            ("crates/craq_server/src/status.rt", b"pub fn status_text", b"fn status_text")):
         copy.changed(file, old, new)
         after = copy.part("tools.pages.surface", "surface")
         checks.same(f"missing calls after a change of {old}: {after[2][-600:]}", after[1], before[1] + 1)

@@ -16,9 +16,11 @@ from tools.pages.tables import wrapped
 RESULTS, PAGE, DATA = "benchmarks/server/RESULTS.md", "README.md", "docs/diagrams/speed.toml"
 BEGIN, END = "<!-- speed -->\n", "<!-- end of speed -->\n"
 BESIDE, FASTEST, PUTS = "redis", "craqd --threads 2", "puts at the head"
-# The numbers of keys and the rate of puts that the sentences name.
-MANY, FEW, RATE_DUE = "1,000,000", "50", "20,000"
-RATE, TIME, RATIO = "A second", "Processor time a reply, µs", "Times redis"
+# The number of keys at which memory is compared, and the number of smallest ratios that are named.
+MANY, LEAST = "1,000,000", 3
+RATE, TIME, RATIO, SPREAD = "A second", "Processor time a reply, µs", "Times redis", "Times redis, spread"
+LATENCY, LATE_AT_RATE = "Median, µs", "Median, times redis"
+BUSY_AT_RATE = "Processor time, times redis"
 # The picture: for replies a second and for processor time the left end of the bars, and the length
 # of the longest.
 BARS = ((RATE, 140, 330), (TIME, 560, 170))
@@ -71,31 +73,58 @@ def block():
     for mix in mixes:
         row = [found.get((mix, server)) for server in servers]
         shown_in = (f"{it[RATE]} ({it[TIME]})" if it else "" for it in row)
-        lines.append([mix, *shown_in, (row[0] or {}).get(RATIO, "")])
+        lines.append([mix, *shown_in, ratio_of(row[0])])
     table = "\n".join("|" + "|".join(f" {it} " if it != "---" else it for it in line) + "|" for line in lines)
     day, _, setting = heading.partition(": ")
     keys = next((f", {it['Keys']} keys" for it in found.values() if "Keys" in it), "")
-    below = f"{day}{keys}, {setting} (`{RESULTS}`). *Times {BESIDE}* is of `{servers[0]}`."
+    below = (f"{day}{keys}, {setting} (`{RESULTS}`). *Times {BESIDE}* is of `{servers[0]}`: the "
+             "median of the ratios of the rounds, and their range.")
     return f"{table}\n\n{wrapped(below)}\n\n{wrapped(slowest())}\n"
 
 
+def ratio_of(row):
+    """Returns the median of the ratios of a row's rounds, and the smallest and largest of them."""
+    return f"{row[RATIO]} ({row[SPREAD]})" if row and row[RATIO] else ""
+
+
+def weakest(rows):
+    """Returns the rows with the smallest ratios, each of another mix."""
+    found = {}
+    for row in sorted(rows, key=lambda it: number(it[RATIO])):
+        found.setdefault(row["Asked"], row)
+    return list(found.values())[:LEAST]
+
+
+def above(rows, column):
+    """Returns by how much the fastest way of serving exceeds redis most in a column, and the row."""
+    return max(((number(it[column]) / number(one(rows, {**of_case(it), "Server": BESIDE})[column]), it)
+                for it in rows if it["Server"] == FASTEST), key=lambda it: it[0])
+
+
+def of_case(row):
+    """Returns the cells of a row that say what was asked."""
+    return {it: row[it] for it in ("Asked", "Keys", "Connections")}
+
+
 def slowest():
-    """Returns the sentences on what the fastest way of serving does worst: puts over many keys, over
-    few, eight together, at a fixed rate, beside memcached, and memory."""
+    """Returns the sentences on what the fastest way of serving does worst, as the results have it: its
+    smallest ratios, its largest median latency and processor time, puts beside memcached, and memory."""
     _, (closed, opened, memory) = tables()
     first = results()[1]
-
-    def ratio(mix, keys):
-        return one(closed, {"Asked": mix, "Keys": keys, "Server": FASTEST})[RATIO]
-
-    at_rate = one(opened, {"Due a second": RATE_DUE, "Server": FASTEST})["Processor time, times redis"]
+    least = "; ".join(f"{it['Asked']} {ratio_of(it)}, {it['Keys']} keys"
+                      for it in weakest([it for it in closed if it["Server"] == FASTEST]))
+    (late, late_at), (busy, busy_at) = (above(closed, column) for column in (LATENCY, TIME))
+    at_rate = [max((it for it in opened if it["Server"] == FASTEST), key=lambda it: number(it[column]))
+               for column in (LATE_AT_RATE, BUSY_AT_RATE)]
     puts, others = (number(first[PUTS, it][RATE]) for it in (FASTEST, "memcached"))
     held, beside = (one(memory, {"Keys": MANY, "Server": it})["Memory, MB"] for it in (FASTEST, BESIDE))
-    return (f"Where `{FASTEST}` is weakest, in this run: puts over {MANY} random keys reach "
-            f"{ratio(PUTS, MANY)} of {BESIDE}, puts over {FEW} keys {ratio(PUTS, FEW)}, eight puts in one "
-            f"request {first['eight puts together', FASTEST][RATIO]}. At {RATE_DUE} puts a second it takes "
-            f"{at_rate} times {BESIDE}' processor time. memcached makes {others / puts:.1f} times its puts. "
-            f"Three replicas of {MANY} objects take {held} MB, {BESIDE}' one copy {beside}.")
+    case = "" if late_at is busy_at else f" ({late_at['Asked']}, {late_at['Keys']} keys)"
+    return (f"Where `{FASTEST}` is weakest, times {BESIDE}: {least}. Its median latency is at most "
+            f"{late:.1f} times {BESIDE}'{case}, its processor time {busy:.1f} times ({busy_at['Asked']}, "
+            f"{busy_at['Keys']} keys); at a fixed rate {at_rate[0][LATE_AT_RATE]} "
+            f"({at_rate[0]['Due a second']} a second) and {at_rate[1][BUSY_AT_RATE]} "
+            f"({at_rate[1]['Due a second']}). memcached makes {others / puts:.1f} times its puts. Three "
+            f"replicas of {MANY} objects take {held} MB, {BESIDE}' one copy {beside}.")
 
 
 def one(rows, wanted):

@@ -8,6 +8,7 @@ import json
 import os
 import re
 import socket
+import subprocess
 import sys
 import tempfile
 import threading
@@ -20,6 +21,8 @@ from jilsdau.client import TRIES
 from jilsdau.connection import Connection, Deadline
 from jilsdau.numbers import Numbers
 from jilsdau.wire import Unread, number, value_bytes
+
+from tools import repository
 
 PATIENCE = 20
 ID = 77
@@ -219,6 +222,24 @@ def bad_words(checks):
                            "nine requests": lambda: store.many([store.asks_set("k", b"")] * 9)}.items():
             checks.that(fault_of(call) in ("ValueError", "OverflowError"), what)
         checks.same("what was sent", server.asked, [])
+        for chain in 0, "b":
+            checks.same(f"no item in chain {chain}", fault_of(store.txn, chain=chain), "ValueError")
+            checks.same(f"number 0 in chain {chain}", fault_of(store.set, "k", b"a", chain=chain, number=0),
+                        "ValueError")
+        for what, lists in {"a key twice": ([("k", 1), (b"k", 2)], [], []), "two reads": ([], ["k", "k"], []),
+                            "two writes": ([], [], [("k", b"a"), ("k", b"b")]),
+                            "17 reads": ([], [str(it) for it in range(17)], [])}.items():
+            checks.same(what, fault_of(store.txn, *lists), "ValueError")
+            checks.same(f"{what}, for many", fault_of(store.asks_txn, *lists, chain="b"), "ValueError")
+        checks.same("number 0 for many", fault_of(store.asks_set, "k", b"a", number=0), "ValueError")
+        for what, words, more in (("value", ("k", "text"), {"chain": "b"}),
+                                  ("node", ("k", b"a"), {"node": "3"})):
+            try:
+                told = store.set(*words, **more)
+            except TypeError as fault:
+                told = str(fault)
+            checks.that("and not" in str(told), f"a text as {what}: {told}")
+        checks.same("what was sent after these", server.asked, [])
     for address in "nowhere", "127.0.0.1:0", ":7000", "127.0.0.1:99999":
         checks.same(f"the address {address}", fault_of(Client, address, client=ID), "ValueError")
 
@@ -343,6 +364,23 @@ def several(checks):
         checks.same("the payload that is sent again", server.asked[3].payload, server.asked[1].payload)
         checks.same("another count of replies", fault_of(store.many, asks), "Open")
         checks.same("one refusal of all", fault_of(store.many, asks), (16, 0))
+
+
+def updates_together(checks):
+    """Each kind of update in one frame, at its node and with its number; a counter's number."""
+    told = b"\x02\x05\x04" + b"".join(written(8, it)[1:] for it in range(1, 5))
+    with Played(told) as server, store_of(server) as store:
+        asks = [store.asks_set("k", b"a", node=2, number=5), store.asks_cas("k", 1, b"b", node=2, number=6),
+                store.asks_add("n", 7, node=2, number=7),
+                store.asks_txn([("k", 2)], ["n"], [("k", b"c")], node=2, number=8)]
+        checks.same("their replies", store.many(asks), [Written(it) for it in range(1, 5)])
+        commands = (wire.put(0, "k", b"a"), wire.test_and_set(0, "k", 1, b"b"), wire.increment(0, "n", 7),
+                    wire.mini(0, [("k", 2)], ["n"], [("k", b"c")]))
+        checks.same("what was sent", server.asked[0].payload, wire.many(
+            [wire.update_request(2, 0, ID, at, it) for at, it in enumerate(commands, 5)]))
+    checks.same("counters", (Read(3, number(8, 258)).number, Read(0, b"").number), (258, 0))
+    checks.same("a value that is no counter", fault_of(lambda: Read(1, b"a").number), "ValueError")
+    checks.same("a refusal in words", str(Refused(9, 1)), "9 NotHead 1: updates go to the head, node 1")
 
 
 def stale_numbers(checks):
@@ -485,7 +523,8 @@ WRONG = (["fetch", "k"], ["set", "k"], ["set", "k", "a", "b"], ["get", "k", "--m
          ["--node"], ["--node", "x", "get", "k"], ["set", "k", "0g", "--hex"], ["get", "k", "--some"],
          ["set", "", "a"], ["set", "k" * 129, "a"],
          ["set", "k", "v" * 4097], ["txn"], ["txn", "x:k"], ["txn", "r:k:1"], ["txn", "r:k", "r:k"],
-         ["cas", "k", "a"], ["set", "k", "a", "--number", "0"])
+         ["cas", "k", "a"], ["set", "k", "a", "--number", "0"], ["members", "extra"],
+         ["health", "--node", "1"], ["set", "k", "0G", "--hex"], ["set", "k", "0A", "--hex"])
 
 
 def commands(checks):
@@ -495,7 +534,7 @@ def commands(checks):
         with Played(*([] if named else [status(1, 2)]), *replies) as server:
             ended, out, err = ran(server, *words)
             checks.same(" ".join(words), (ended, out), (status_wanted, wanted))
-            checks.same(f"whether {' '.join(words)} tells a fault", bool(err), status_wanted in (3, 4))
+            checks.same(f"whether {' '.join(words)} tells a fault", bool(err), status_wanted in (3, 4, 6))
     for words in WRONG:
         with Played() as server:
             ended, out, err = ran(server, *words)
@@ -523,7 +562,7 @@ def left_open(checks):
             ended, _, err = ran(server, *node, *words)
             found = {(it.id, it.number) for it in updates_of(server)}
             checks.same("numbers of an update that is left open", len(found), 1)
-            again = (f"jilsdau --client 7 --number {found.pop()[1]} --connect {server.address} "
+            again = (f"/run.py --client 7 --number {found.pop()[1]} --connect {server.address} "
                      f"{' '.join([*node, ''])}append k 'a b'\n")
             checks.that(again in err, f"an update that is left open: {err!r}, wanted {again!r}")
             checks.same("its status", ended, 4 if replies == [CLOSES] else 3)
@@ -532,9 +571,23 @@ def left_open(checks):
             checks.that("may have been done" not in ran(server, *words)[2], f"{words} is not left open")
 
 
+def asked_again(checks):
+    """The command that is printed can be run as it is, and asks the update again with its number."""
+    with Played(CLOSES, written(5, 1), CLOSES) as server:
+        words = [sys.executable, "-B", repository.path("clients/python/jilsdau"), "--connect", server.address,
+                 "--node", "1", "set", "k", "-"]
+        ran_once = subprocess.run(words, input=b"a b", capture_output=True, timeout=PATIENCE)
+        again = ran_once.stderr.decode().splitlines()[-1].strip()
+        checks.that(b"again with the same standard input," in ran_once.stderr, f"it tells: {ran_once.stderr}")
+        ran_again = subprocess.run(["bash", "-c", again], input=b"a b", capture_output=True, timeout=PATIENCE)
+        checks.same(f"{again}: its end", (ran_again.returncode, ran_again.stdout), (0, b"written 1\n"))
+        asked = updates_of(server)
+        checks.that(len(asked) == 2 and asked[0].payload == asked[1].payload, "it asks the same")
+
+
 PARTS = (numbers, lost_replies, passing_refusals, lasting_refusals, bad_words, named_nodes, tries, deadlines,
-         passes, bad_replies, several, stale_numbers,
-         threads, members, health, defaults, commands, left_open)
+         passes, bad_replies, several, updates_together, stale_numbers,
+         threads, members, health, defaults, commands, left_open, asked_again)
 
 
 def tried(checks):

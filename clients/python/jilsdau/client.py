@@ -65,7 +65,8 @@ class Open(Exception):
     """The update may or may not have been done.
 
     Make the same call again with the client's id `client` and with `number=` the number in
-    `numbers`: it is then done once. The cause of this exception is the last fault.
+    `numbers`: it is then done once. After `many` make each update again with its number. The cause of
+    this exception is the last fault.
     """
 
     def __init__(self, client: int, numbers: Sequence[int], fault: BaseException) -> None:
@@ -83,15 +84,16 @@ class Client:
 
     address: HOST:PORT; if None, CRAQ_CONNECT or 127.0.0.1:7000.
     client: an id that no other program uses; if None, CRAQ_CLIENT or the id kept for this user.
-    shown: the pass to start with. Each request carries the largest pass received so far, so no
-    strong read is older than a strong reply that this client has received.
+    shown: the pass to start with, and then the largest that was received: give it to another client
+    to pass on what this one has seen. Each request carries it, so no strong read is older than a
+    strong reply that this client has received.
     connections: the most that are open at once. patience: seconds that one try may take.
     deadline: seconds that a request may take with all its tries.
 
     Nothing is sent before the first call. Calls raise Refused if the store refuses, Open if an
     update failed and may have been done, NoConnection and other OSErrors if no server answers,
-    BadReply if bytes came that are no reply, and ValueError or OverflowError, before anything is
-    sent, if a key, a value or a number has no encoding.
+    BadReply if bytes came that are no reply, and ValueError, OverflowError or TypeError, before
+    anything is sent, if a key, a value, a number or a transaction has no encoding.
     """
 
     def __init__(self, address: Optional[str] = None, *, client: Optional[int] = None, shown: int = 0,
@@ -121,47 +123,44 @@ class Client:
     def set(self, key: Key, value: bytes, *, chain: ChainName = 0, node: Optional[int] = None,
             number: Optional[int] = None) -> UpdateReply:
         """Writes the value, and returns Written(version)."""
-        at = self.chain_id(chain)
-        return self.update(at, wire.put(at, key, value), node=node, number=number)
+        return self.send(self.asks_set(key, value, chain=chain, node=node, number=number))
 
     def cas(self, key: Key, version: int, value: bytes, *, chain: ChainName = 0,
             node: Optional[int] = None, number: Optional[int] = None) -> UpdateReply:
         """Writes the value if the object has this version (0: never written), else Mismatch(version)."""
-        at = self.chain_id(chain)
-        return self.update(at, wire.test_and_set(at, key, version, value), node=node, number=number)
+        return self.send(self.asks_cas(key, version, value, chain=chain, node=node, number=number))
 
     def append(self, key: Key, value: bytes, *, chain: ChainName = 0, node: Optional[int] = None,
                number: Optional[int] = None) -> UpdateReply:
         """Appends to the value: Written(version), or TooLong() above 4,096 bytes."""
-        at = self.chain_id(chain)
-        return self.update(at, wire.append(at, key, value), node=node, number=number)
+        return self.send(self.asks(chain, lambda at: wire.append(at, key, value), node, number))
 
     def prepend(self, key: Key, value: bytes, *, chain: ChainName = 0, node: Optional[int] = None,
                 number: Optional[int] = None) -> UpdateReply:
         """Prepends to the value: Written(version), or TooLong() above 4,096 bytes."""
-        at = self.chain_id(chain)
-        return self.update(at, wire.prepend(at, key, value), node=node, number=number)
+        return self.send(self.asks(chain, lambda at: wire.prepend(at, key, value), node, number))
 
     def add(self, key: Key, by: int = 1, *, chain: ChainName = 0, node: Optional[int] = None,
             number: Optional[int] = None) -> UpdateReply:
         """Adds to the number in the object's 8 bytes: Written(version), NotANumber() or Overflow()."""
-        at = self.chain_id(chain)
-        return self.update(at, wire.increment(at, key, by), node=node, number=number)
+        return self.send(self.asks_add(key, by, chain=chain, node=node, number=number))
 
     def sub(self, key: Key, by: int = 1, *, chain: ChainName = 0, node: Optional[int] = None,
             number: Optional[int] = None) -> UpdateReply:
         """Subtracts from the number in the object's 8 bytes: Written(version), NotANumber() or
         Underflow()."""
-        at = self.chain_id(chain)
-        return self.update(at, wire.decrement(at, key, by), node=node, number=number)
+        return self.send(self.asks(chain, lambda at: wire.decrement(at, key, by), node, number))
 
     def txn(self, compares: Iterable[tuple[Key, int]] = (), reads: Iterable[Key] = (),
             writes: Iterable[tuple[Key, bytes]] = (), *, chain: ChainName = 0, node: Optional[int] = None,
             number: Optional[int] = None) -> UpdateReply:
         """Reads and writes atomically if every (key, version) matches: Done(reads) or
         CompareFailed(index)."""
-        at = self.chain_id(chain)
-        return self.update(at, wire.mini(at, compares, reads, writes), node=node, number=number)
+        return self.send(self.asks_txn(compares, reads, writes, chain=chain, node=node, number=number))
+
+    def send(self, asked: Asked) -> UpdateReply:
+        """Sends an update that was made for `many` by itself."""
+        return self.update(asked.chain, cast(bytes, asked.command), node=asked.node, number=asked.number)
 
     def update(self, chain: int, command: bytes, *, node: Optional[int] = None,
                number: Optional[int] = None) -> UpdateReply:
@@ -171,6 +170,7 @@ class Client:
         try was never done (other programs use this client's id): it is exchanged for a larger one,
         seven times at most.
         """
+        wire.check_number(number)
         tried = self.begin()
         if number is not None:
             return self.numbered(Asked(chain, command, number, node), tried)
@@ -239,14 +239,41 @@ class Client:
 
     # Several requests in one frame.
 
-    def asks_set(self, key: Key, value: bytes, *, chain: ChainName = 0) -> Asked:
+    def asks_set(self, key: Key, value: bytes, *, chain: ChainName = 0, node: Optional[int] = None,
+                 number: Optional[int] = None) -> Asked:
         """Returns a write for `many`."""
+        return self.asks(chain, lambda at: wire.put(at, key, value), node, number)
+
+    def asks_cas(self, key: Key, version: int, value: bytes, *, chain: ChainName = 0,
+                 node: Optional[int] = None, number: Optional[int] = None) -> Asked:
+        """Returns a `cas` for `many`."""
+        return self.asks(chain, lambda at: wire.test_and_set(at, key, version, value), node, number)
+
+    def asks_add(self, key: Key, by: int = 1, *, chain: ChainName = 0, node: Optional[int] = None,
+                 number: Optional[int] = None) -> Asked:
+        """Returns an `add` for `many`."""
+        return self.asks(chain, lambda at: wire.increment(at, key, by), node, number)
+
+    def asks_txn(self, compares: Iterable[tuple[Key, int]] = (), reads: Iterable[Key] = (),
+                 writes: Iterable[tuple[Key, bytes]] = (), *, chain: ChainName = 0,
+                 node: Optional[int] = None, number: Optional[int] = None) -> Asked:
+        """Returns a transaction for `many`."""
+        lists = list(compares), list(reads), list(writes)
+        return self.asks(chain, lambda at: wire.mini(at, *lists), node, number)
+
+    def asks(self, chain: ChainName, encode: Callable[[int], bytes], node: Optional[int],
+             number: Optional[int]) -> Asked:
+        """Returns the update that `encode` makes for the id of a chain. What cannot be encoded is refused
+        before a name of a chain is looked up at the server."""
+        wire.check_number(number)
+        command = encode(chain if isinstance(chain, int) else 0)
         at = self.chain_id(chain)
-        return Asked(at, wire.put(at, key, value))
+        return Asked(at, command if isinstance(chain, int) else encode(at), number, node)
 
     def asks_update(self, chain: int, command: bytes, *, node: Optional[int] = None,
                     number: Optional[int] = None) -> Asked:
         """Returns an encoded command for `many`."""
+        wire.check_number(number)
         return Asked(chain, command, number, node)
 
     def asks_get(self, key: Key, *, mode: bytes = wire.STRONG, chain: ChainName = 0,
@@ -265,12 +292,13 @@ class Client:
             raise ValueError(f"a frame has 1 to {wire.MANY_LIMIT} requests, and not {len(asked)}")
         with contextlib.ExitStack() as due:
             fresh = self.taken(due, asked)
-            numbers = [it.number or next(fresh[it.chain]) if it.command else None for it in asked]
+            numbers = [None if it.command is None else next(fresh[it.chain]) if it.number is None
+                       else it.number for it in asked]
             return self.asked_at_once(asked, numbers)
 
     def taken(self, due: contextlib.ExitStack, asked: Sequence[Asked]) -> dict[int, Iterator[int]]:
         """Issues the numbers that these updates lack, by chain, due until the stack ends."""
-        lacking = [it.chain for it in asked if it.command and not it.number]
+        lacking = [it.chain for it in asked if it.command is not None and it.number is None]
         return {it: iter(due.enter_context(self.numbers.take(it, lacking.count(it))))
                 for it in sorted(set(lacking))}
 

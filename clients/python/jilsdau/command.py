@@ -43,7 +43,9 @@ from __future__ import annotations
 
 import json
 import os
+import re
 import shlex
+import shutil
 import sys
 from typing import Any, Callable, NoReturn, Optional, Sequence
 
@@ -52,16 +54,6 @@ from .client import Client, Health, Open
 from .wire import BadReply, Done, Read, Refused, UpdateReply, Written
 
 CANNOT, WRONG, REFUSED, NO_SERVER, NOT_WRITTEN, ABSENT = 1, 2, 3, 4, 5, 6
-WORDS = {
-    7: "there is no such chain", 8: "the objects are not of one chain", 9: "updates go to the head, node {}",
-    10: "the node is not ready yet", 11: "the node has stopped",
-         12: "too many requests are waiting, ask later",
-    13: "the pass is not one of this server, or a counter is at its end",
-         14: "the server is out of memory, ask later",
-    15: "the request was not understood", 16: "the request is too long",
-         23: "the chain never had such a node",
-    27: "the server is closing",
-}
 VALUED = ("--connect", "--chain", "--node", "--mode", "--pass", "--client", "--number")
 FLAGS = ("--print-pass", "--hex", "--decimal", "--json")
 
@@ -146,10 +138,9 @@ def value_of(word: str, options: Options) -> bytes:
     """Returns the bytes of a value: those the shell gave, of hexadecimal digits, or of standard input."""
     value = sys.stdin.buffer.read(4097 * 3) if word == "-" else os.fsencode(word)
     if options.has("--hex"):
-        try:
-            value = bytes.fromhex(value.decode())
-        except ValueError:
-            raise Wrong("with --hex a value is pairs of hexadecimal digits") from None
+        if not re.fullmatch(b"([0-9a-f]{2})*", value):
+            raise Wrong("with --hex a value is pairs of hexadecimal digits in lower case")
+        value = bytes.fromhex(value.decode())
     if len(value) > 4096:
         raise Wrong("a value has at most 4096 bytes")
     return value
@@ -164,7 +155,7 @@ Call = Callable[[Client], Any]
 def expect(words: Sequence[str], *names: str, optional: int = 0) -> None:
     """Raises Wrong unless there are as many words as names, of which the last may be missing."""
     if not len(names) - optional <= len(words) <= len(names):
-        raise Wrong(f"expected {' '.join(names)}")
+        raise Wrong(f"expected {' '.join(names) or 'no more words'}, and found {shlex.join(words) or 'none'}")
 
 
 def where(options: Options) -> dict[str, Any]:
@@ -222,6 +213,8 @@ def plan_members(_: str, options: Options, words: Sequence[str]) -> Call:
 
 def plan_health(_: str, options: Options, words: Sequence[str]) -> Call:
     expect(words)
+    if options.node is not None:
+        raise Wrong("health asks each member, and takes no --node")
     return lambda store: store.health(chain=options.chain)
 
 
@@ -301,8 +294,7 @@ def tell(text: str) -> None:
 
 
 def tell_refused(refused: Refused) -> None:
-    words = WORDS.get(refused.number, "").format(refused.detail)
-    tell(f"refused {refused}: {words}")
+    tell(f"refused {refused}")
 
 
 def tell_open(fault: Open, words: Sequence[str]) -> None:
@@ -310,8 +302,17 @@ def tell_open(fault: Open, words: Sequence[str]) -> None:
     kept = list(words)
     for name in "--client", "--number":
         kept = without(kept, name)
-    again = ["--client", str(fault.client), "--number", str(fault.numbers[0]), *kept]
-    tell(f"it may have been done. This asks it again, and it is done once:\n  jilsdau {shlex.join(again)}")
+    again = [*this_program(), "--client", str(fault.client), "--number", str(fault.numbers[0]), *kept]
+    given = " with the same standard input" if any(it == "-" or it.endswith(":-") for it in words) else ""
+    tell(f"it may have been done. This asks it again{given}, and it is done once:\n  {shlex.join(again)}")
+
+
+def this_program() -> list[str]:
+    """Returns the words that run this command: itself if it is installed, else Python with its folder."""
+    own = sys.argv[0]
+    if os.path.isfile(own) and os.access(own, os.X_OK):
+        return ["jilsdau" if shutil.which("jilsdau") == os.path.abspath(own) else own]
+    return ["python3", own]
 
 
 def without(words: Sequence[str], name: str) -> list[str]:
@@ -335,6 +336,8 @@ def asked(words: Sequence[str]) -> int:
             print(json.dumps({**json_of(told), "pass": store.shown}))
         else:
             print_told(told, options)
+            if isinstance(told, Read) and not told.version:
+                tell("absent: the object was never written")
             if options.has("--print-pass"):
                 sys.stdout.buffer.write(f"pass {store.shown}\n".encode())
         sys.stdout.flush()

@@ -10,7 +10,7 @@ from dataclasses import dataclass
 from typing import Iterable, NamedTuple, Optional, Sequence, Tuple, Union
 
 FRAME_LIMIT = 1_048_576
-MANY_LIMIT = 8
+MANY_LIMIT, ITEM_LIMIT = 8, 16
 UPDATE, READ, STATUS, MANY = 1, 2, 3, 4
 UPDATE_REPLY, READ_REPLY, REFUSED_REPLY, STATUS_REPLY, MANY_REPLY = 1, 2, 3, 4, 5
 STRONG, EVENTUAL = b"\x01", b"\x02"
@@ -31,6 +31,16 @@ class Read:
 
     version: int
     value: bytes
+
+    @property
+    def number(self) -> int:
+        """The number of a counter; 0 if the object was never written.
+
+        Raises ValueError if the value does not have 8 bytes.
+        """
+        if self.version and len(self.value) != 8:
+            raise ValueError(f"a number has 8 bytes, and this value has {len(self.value)}")
+        return int.from_bytes(self.value, "big")
 
 
 @dataclass(frozen=True)
@@ -104,9 +114,19 @@ class Refused(Exception):
         13: "Exhausted", 14: "Memory", 15: "BadFrame", 16: "FrameTooLong", 23: "WrongNode", 27: "Closed",
     }
 
+    WORDS = {
+        7: "there is no such chain", 8: "the objects are not of one chain",
+        9: "updates go to the head, node {}", 10: "the node is not ready yet", 11: "the node has stopped",
+        12: "too many requests are waiting, ask later",
+        13: "a counter is at its end, or the pass is far above those that the server sent",
+        14: "the server is out of memory, ask later", 15: "the request was not understood",
+        16: "the request is too long", 23: "the chain never had such a node", 27: "the server is closing",
+    }
+
     def __init__(self, number: int, detail: int = 0) -> None:
-        name = self.NAMES.get(number, "of another call")
-        super().__init__(f"{number} {name}" + (f" {detail}" if detail else ""))
+        name, words = self.NAMES.get(number, "of another call"), self.WORDS.get(number, "")
+        super().__init__(f"{number} {name}" + (f" {detail}" if detail else "")
+                         + (f": {words.format(detail)}" if words else ""))
         self.number, self.detail = number, detail
 
 
@@ -125,6 +145,8 @@ class Reply(NamedTuple):
 
 def number(size: int, it: int) -> bytes:
     """Encodes a number in this many bytes. Raises OverflowError if it does not fit."""
+    if not isinstance(it, int):
+        raise TypeError(f"expected a number, and not {it!r}")
     return it.to_bytes(size, "big")
 
 
@@ -138,6 +160,8 @@ def key_bytes(key: Key) -> bytes:
 
 def value_bytes(value: bytes) -> bytes:
     """Encodes a value. Raises ValueError if it has more than 4,096 bytes."""
+    if isinstance(value, str):
+        raise TypeError("a value is bytes, and not a text: encode it, as \"blue\".encode()")
     if len(value) > 4096:
         raise ValueError(f"a value has at most 4096 bytes, and this one has {len(value)}")
     return number(2, len(value)) + value
@@ -210,10 +234,23 @@ def decrement(chain: int, key: Key, by: int) -> bytes:
 def mini(chain: int, compares: Iterable[tuple[Key, int]] = (), reads: Iterable[Key] = (),
          writes: Iterable[tuple[Key, bytes]] = ()) -> bytes:
     """Reads keys and writes (key, value) pairs, atomically, if every (key, version) matches."""
+    compares, reads, writes = list(compares), list(reads), list(writes)
+    check_items([it[0] for it in compares], reads, [it[0] for it in writes])
     lists = ([object_bytes(chain, key) + number(8, version) for key, version in compares],
              [object_bytes(chain, key) for key in reads],
              [object_bytes(chain, key) + value_bytes(value) for key, value in writes])
     return b"\x07" + b"".join(number(1, len(it)) + b"".join(it) for it in lists)
+
+
+def check_items(*lists: Sequence[Key]) -> None:
+    """Raises ValueError unless a transaction may have these keys of its three kinds of items."""
+    if not any(lists):
+        raise ValueError("a transaction has 1 item or more")
+    for keys in lists:
+        if len(keys) > ITEM_LIMIT:
+            raise ValueError(f"a transaction has at most {ITEM_LIMIT} items of a kind, and not {len(keys)}")
+        if len({key_bytes(it) for it in keys}) < len(keys):
+            raise ValueError("no items of one kind have the same key")
 
 
 def bounded(above: int) -> bytes:
@@ -223,8 +260,15 @@ def bounded(above: int) -> bytes:
 
 # Requests.
 
+def check_number(request: Optional[int]) -> None:
+    """Raises ValueError if this is a number of no update: it has 64 bits, and is at least 1."""
+    if request is not None and not 1 <= request < 2 ** 64:
+        raise ValueError(f"the number of an update has 64 bits and is at least 1, and not {request}")
+
+
 def update_request(node: int, shown: int, client: int, request: int, command: bytes) -> Request:
     """Returns an update as its kind and its body."""
+    check_number(request)
     return UPDATE, number(4, node) + number(8, shown) + number(8, client) + number(8, request) + command
 
 

@@ -252,7 +252,7 @@ COMMANDS = [
     (["cas", "worded", "0", "red"], 5, "mismatch 1\n"),
     (["--chain", "b", "append", "worded", "00", "--hex"], 0, "written 1\n"),
     (["--chain", "1", "get", "worded"], 0, "\0"),
-    (["get", "never"], 6, ""),
+    (["get", "never"], 6, "jilsdau: absent: the object was never written\n"),
     (["add", "worded.n", "2"], 0, "written 1\n"),
     (["get", "worded.n", "--decimal"], 0, "2\n"),
     (["txn", "c:worded:1", "r:worded", "w:worded:green"], 0, "done\n1 blue\n"),

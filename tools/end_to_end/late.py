@@ -185,9 +185,9 @@ def stopped(checks, craqd, craq, home):
         check_time(checks, "an update at a stopped member", found[0].began, found[0])
         for words, ran in zip(lines, found):
             what = f"{words[-3:]} at a stopped member"
-            again = re.search("This asks it again, and it is done once:\n  ((?:craq|jilsdau) .*)\n", ran.err)
+            again = re.search("This asks it again, and it is done once:\n  ((?:craq|python3) .*)\n", ran.err)
             checks.that(ran.status == 4 and again, f"{what}: {ran.status} {ran.err!r}")
-            line = again[1].replace("jilsdau ", f"{sys.executable} {JILSDAU} ", 1) if again else "false"
+            line = again[1] if again else "false"
             asked = subprocess.run(line, shell=True, capture_output=True, env=env, timeout=WAITS, check=False)
             checks.same(f"{what}, asked again", (asked.returncode, asked.stdout, asked.stderr), (0, b"written 1\n", b""))
 

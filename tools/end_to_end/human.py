@@ -296,6 +296,18 @@ def lost(checks, server, craq, home):
     checks.that(found[0] == 4 and "may have been done" not in found[2], f"a lost read: {found}")
 
 
+def turned_away(checks, craq):
+    """A watch asks again while the server closes each connection, and ends once no server is there."""
+    status = running.STATUS.encode()
+    status = b"\x01\x04" + len(status).to_bytes(4, "big") + status
+    told = (len(status).to_bytes(4, "big") + status).hex()
+    found = running.ended([craq, "--connect", giving(["", "", told]), "watch"])
+    checks.same("craq watch at a server that is full", found, (4, running.STATUS + "\n", "connection\n"))
+    page = b'HTTP/1.1 200 OK\r\n\r\n{"chains":[{"name":"a","epoch":1,"nodes":[]}]}'.hex()
+    found = running.ended([craq, "watch", "--metrics", giving(["", page])])
+    checks.same("craq watch --metrics at a server that is full", found, (4, "chain a, epoch 1\n", "connection\n"))
+
+
 def prompt(checks, server, craq, home):
     """Verbs in a prompt."""
     env = environment(home, CRAQ_CONNECT=server.address)
@@ -341,4 +353,5 @@ def all_of(checks, craqd, craq, nowhere):
         finally:
             server.kill()
         checks.part("one connection", one_connection, craqd, craq, home)
+        checks.part("a server that is full", turned_away, craq)
         checks.part("the command in Python", in_python, craqd, home)

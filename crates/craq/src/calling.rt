@@ -1,5 +1,4 @@
-//! One request to the server, and the text of its answer; for `main`, `shell`, `watch`, `bench` and
-//! `link`.
+//! One request to the server, and the text of its answer; for `main`, `shell`, `bench` and `link`.
 ghost use Rattle.std.specs.Prelude.{◌≡◌};
 
 use crate::deadline::Deadline;
@@ -180,15 +179,6 @@ pub fn exchange_over(
             Err(fault_of(refusal))
         }
     }
-}
-
-/// Sends a message over a connection of its own, and gives the reply, which may take 20 seconds.
-pub fn reply_to<R>(rt: &R, address: &str, message: &ClientMessage) -> Result<ClientReply, Fault>
-where
-    R: AllocGlobal + Clock + Net<Listener = TcpListener, Stream = TcpStream>,
-{
-    let deadline = Deadline::begin(rt)?;
-    Ok(Link::new(address).ask(rt, message, deadline)?)
 }
 
 /// Prints a refusal in words on standard error, if it is one.

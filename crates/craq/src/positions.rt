@@ -3,6 +3,7 @@
 use crate::calling::connection;
 use crate::deadline::Deadline;
 use crate::fault::Fault;
+use crate::link::Failure;
 use crate::timed::TimedStream;
 use serde_json::Value;
 use std::alloc::{AllocError, Global};
@@ -49,20 +50,34 @@ impl Positions {
     }
 }
 
-/// Returns the response to a request for the page, which may take 20 seconds.
-fn response<R>(rt: &R, address: &str) -> Result<String, Fault>
+/// Returns the failure of a connection whose read or write failed so.
+fn failure_of(kind: ErrorKind) -> Failure {
+    match kind {
+        ErrorKind::OutOfMemory => Failure::Memory,
+        ErrorKind::WouldBlock | ErrorKind::TimedOut => Failure::Late,
+        _ => Failure::Broken,
+    }
+}
+
+/// Returns the response to a request for the page, and waits for it until the deadline. `Unsent` if
+/// no connection was made, `Broken` if it was closed without a byte.
+fn response<R>(rt: &R, address: &str, deadline: Deadline) -> Result<String, Failure>
 where
     R: AllocGlobal + Clock + Net<Listener = TcpListener, Stream = TcpStream>,
 {
-    let deadline = Deadline::begin(rt)?;
-    let mut stream = TimedStream::new(rt, connection(rt, address, deadline)?, deadline);
-    if stream.write_all(REQUEST.as_bytes()).is_err() {
-        return Err(Fault::Connection);
+    let stream = match connection(rt, address, deadline) {
+        Ok(stream) => stream,
+        Err(Fault::Memory) => return Err(Failure::Memory),
+        Err(_) => return Err(Failure::Unsent),
+    };
+    let mut stream = TimedStream::new(rt, stream, deadline);
+    if let Err(error) = stream.write_all(REQUEST.as_bytes()) {
+        return Err(failure_of(error.kind()));
     }
     match io::read_to_string(rt.alloc(), stream) {
+        Ok(text) if text.is_empty() => Err(Failure::Broken),
         Ok(text) => Ok(text),
-        Err(error) if error.kind() == ErrorKind::OutOfMemory => Err(Fault::Memory),
-        Err(_) => Err(Fault::Connection),
+        Err(error) => Err(failure_of(error.kind())),
     }
 }
 
@@ -107,15 +122,15 @@ fn push_chain(text: &mut String, value: &Value) -> Result<bool, AllocError> {
     Ok(true)
 }
 
-/// Returns a line for each chain of a page; `Connection` if the page has no chains.
-fn lines_of(alloc: Global, page: &Value) -> Result<String, Fault> {
+/// Returns a line for each chain of a page; `NoReply` if the page has no chains.
+fn lines_of(alloc: Global, page: &Value) -> Result<String, Failure> {
     let Some(chains) = page.get("chains").and_then(Value::as_array) else {
-        return Err(Fault::Connection);
+        return Err(Failure::NoReply);
     };
     let mut text = String::new(alloc);
     for chain in chains {
         if !push_chain(&mut text, chain)? {
-            return Err(Fault::Connection);
+            return Err(Failure::NoReply);
         }
     }
     Ok(text)
@@ -123,17 +138,17 @@ fn lines_of(alloc: Global, page: &Value) -> Result<String, Fault> {
 
 /// Asks a server for its page, and returns a line for each chain: its epoch, and of each member the
 /// number of entries that it knows to be committed, and that of all its entries.
-pub fn read_positions<R>(rt: &R, address: &str) -> Result<String, Fault>
+pub fn read_positions<R>(rt: &R, address: &str, deadline: Deadline) -> Result<String, Failure>
 where
     R: AllocGlobal + Clock + Net<Listener = TcpListener, Stream = TcpStream>,
 {
-    let response = response(rt, address)?;
+    let response = response(rt, address, deadline)?;
     let Some(body) = body_of(response.as_str()) else {
-        return Err(Fault::Connection);
+        return Err(Failure::NoReply);
     };
     match Value::from_str(rt.alloc(), body) {
         Ok(page) => lines_of(rt.alloc(), &page),
-        Err(error) if error.is_memory() => Err(Fault::Memory),
-        Err(_) => Err(Fault::Connection),
+        Err(error) if error.is_memory() => Err(Failure::Memory),
+        Err(_) => Err(Failure::NoReply),
     }
 }

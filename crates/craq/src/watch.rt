@@ -1,7 +1,8 @@
 //! `craq watch`: the status of the server, or the positions of its nodes, printed again whenever it
 //! changes; called by `main`.
-use crate::calling::reply_to;
+use crate::deadline::Deadline;
 use crate::fault::Fault;
+use crate::link::{Failure, Link};
 use crate::positions::read_positions;
 use craq_frames::{ClientMessage, ClientReply};
 use std::net::{Net, TcpListener, TcpStream};
@@ -11,6 +12,9 @@ use std::time::{Clock, Duration, Instant};
 
 /// The milliseconds between two requests.
 const PAUSE_MILLISECONDS: u64 = 200;
+
+/// The most requests of one look: as many as the pauses between them are 20 seconds.
+const MOST_REQUESTS: u32 = 100;
 
 /// The thing that is watched.
 #[derive(Clone, Copy, Debug)]
@@ -22,28 +26,47 @@ pub enum Watched<'a> {
 }
 
 /// Asks the server for its status. Returns it as a line.
-fn status<R>(rt: &R, address: &str) -> Result<String, Fault>
+fn status<R>(rt: &R, address: &str, deadline: Deadline) -> Result<String, Failure>
 where
     R: AllocGlobal + Clock + Net<Listener = TcpListener, Stream = TcpStream>,
 {
-    match reply_to(rt, address, &ClientMessage::Status)? {
+    match Link::new(address).ask(rt, &ClientMessage::Status, deadline)? {
         ClientReply::Status(status) => {
             let status = status.as_str();
             Ok(format!(in rt.alloc(); "{status}\n")?)
         }
-        _ => Err(Fault::Connection),
+        _ => Err(Failure::NoReply),
     }
 }
 
-/// Returns the lines of what is watched.
-fn seen<R>(rt: &R, watched: Watched<'_>) -> Result<String, Fault>
+/// Asks once for what is watched, and returns its lines.
+fn seen_once<R>(rt: &R, watched: Watched<'_>, deadline: Deadline) -> Result<String, Failure>
 where
     R: AllocGlobal + Clock + Net<Listener = TcpListener, Stream = TcpStream>,
 {
     match watched {
-        Watched::Status(address) => status(rt, address),
-        Watched::Positions(address) => read_positions(rt, address),
+        Watched::Status(address) => status(rt, address, deadline),
+        Watched::Positions(address) => read_positions(rt, address, deadline),
     }
+}
+
+/// Returns the lines of what is watched. Asks again for up to 20 seconds while the server closes each
+/// connection, as one does that has too many.
+fn seen<R>(rt: &R, watched: Watched<'_>) -> Result<String, Failure>
+where
+    R: AllocGlobal + Clock + Net<Listener = TcpListener, Stream = TcpStream>,
+{
+    let deadline = Deadline::begin(rt)?;
+    for _ in 0..MOST_REQUESTS {
+        match seen_once(rt, watched, deadline) {
+            Err(Failure::Broken) => {}
+            looked => return looked,
+        }
+        if !deadline.pause(rt, Duration::from_millis(PAUSE_MILLISECONDS)) {
+            break;
+        }
+    }
+    Err(Failure::Broken)
 }
 
 /// Prints lines.

@@ -201,8 +201,6 @@ def values(checks, server, craq, home):
     found = ran([craq, "--connect", server.address, "--node", "1", "put", "1", "1", "k", b"\xff"], env)
     checks.same("craq put with a word that is no text", found,
                 (2, b"", "error: a word of the command line is not UTF-8\n"))
-    found = ran([craq, "--connect", server.address, "--node", "1", "put", "9", "1", "private", "\uf7ff"], env)
-    checks.same("craq put with a private character", (found[0], found[1][:10]), (0, b"written 1\n"))
 
 
 def ids(checks, server, craq, home):

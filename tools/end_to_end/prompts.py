@@ -23,8 +23,9 @@ ENTERED = [
     ("node 01", None, "error: expected node N with a number of 32 bits"),
     ("status", running.STATUS, None),
     (f"put 7 2 k {'v' * 4097}", "refused 2", "craq: a value has at most 4096 bytes"),
-    ("put 7 2 k é", "written 2", None),
-    ("read eventual k", "read 2 0xc3a9", None),
+    ("put 7 2 k é", None, "error: expected VALUE, printable ASCII without blanks, or 0x and pairs of hexadecimal digits in "
+                          "lower case, and found 'é'"),
+    ("read eventual k", "read 1 0x61", None),
 ]
 HISTORY = ["put 7 1 k a", "node   3", "read strong k"]
 

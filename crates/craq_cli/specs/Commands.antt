@@ -1,6 +1,7 @@
 -- The request that the words of a command of `craq` make, or the first word that is not the one expected there. Places are counted
 -- from 0, where the command's name stands. Single words are read as in scripts.
-use Rattle.std.specs.Prelude.{◌≡◌, ⊤, ℕ, ◌+◌, List, [], ◌∷◌, length, drop, codes, nat_le, Option, Some, None, Result, Ok, Err, slice_get, if◌then◌else◌}
+use Rattle.std.specs.Prelude.{◌≡◌, ⊤, ℕ, ◌+◌, ◌&&◌, Bool, List, [], ◌∷◌, length, drop, codes, nat_le, Option, Some, None, Result, Ok, Err, slice_get, if◌then◌else◌}
+use Rattle.std.specs.List.{list_all}
 use Rattle.craq_names.specs.Limits.{greatest}
 use Rattle.craq_names.specs.Maps.{same_bytes}
 use Rattle.craq_script.specs.declared.line.ScriptObject.{ScriptObject}
@@ -46,6 +47,14 @@ abbrev pub spelled : {A : Type 0} → (List ℕ → Option A) → Option (List �
 spelled read None = None
 spelled read (Some word) = read word
 
+-- a printable ASCII character without the blank: `!` to `~`
+abbrev pub is_printable : ℕ → Bool
+is_printable c = nat_le 33 c && nat_le c 126
+
+-- returns the value that a word encodes, if the word can stand in a line of a script
+abbrev pub in_line : {A : Type 0} → (List ℕ → Option A) → List ℕ → Option A
+in_line read word = if list_all is_printable word then read word else None
+
 -- the word at a place as what is expected there
 abbrev pub word_at : {A : Type 0} → Expected → (List ℕ → Option A) → List (List ℕ) → ℕ → Result A BadWord
 word_at expected read words place = expect place expected (spelled read (slice_get words place))
@@ -58,7 +67,7 @@ at_end x words place = if nat_le (length words) place then Ok x else Err (record
 unfoldable pub object_and_value : List (List ℕ) → Result (ScriptObject × List ℕ) BadWord
 object_and_value words = do
   object ← word_at expected.Object script_object words 3
-  value ← word_at expected.Value script_value words 4
+  value ← word_at expected.Value (in_line script_value) words 4
   at_end (object, value) words 5
 
 -- OBJECT BY, behind CLIENT NUMBER
@@ -73,14 +82,14 @@ unfoldable pub test_and_set_of : List (List ℕ) → Result ScriptCommand BadWor
 test_and_set_of words = do
   object ← word_at expected.Object script_object words 3
   expect ← word_at expected.Version (number_between 0 greatest) words 4
-  value ← word_at expected.Value script_value words 5
+  value ← word_at expected.Value (in_line script_value) words 5
   at_end (changes.TestAndSet object expect value) words 6
 
 -- an item for each word, the first of which stands at the place
 abbrev pub items_from : ℕ → List (List ℕ) → Result (List MiniItem) BadWord
 items_from place [] = Ok []
 items_from place (word ∷ words) = do
-  item ← expect place expected.Item (item_of word)
+  item ← expect place expected.Item (in_line item_of word)
   items ← items_from (place + 1) words
   Ok (item ∷ items)
 

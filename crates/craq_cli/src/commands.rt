@@ -1,9 +1,9 @@
 //! Reads the words of a command: its task, or the first wrong word; for `client` and for a prompt.
 ghost use Rattle.std.specs.Prelude.{◌≡◌, is_some, map, drop};
 ghost use Rattle.craq_script.specs.Words.{item_of};
-ghost use Rattle.craq_cli.specs.Commands.{Reads, expect, word_at, object_and_value, object_and_number, test_and_set_of, items_from, change_of, command_update, read_of, name_of, request_of, worded_load, load_of, watch_of, task_of};
+ghost use Rattle.craq_cli.specs.Commands.{Reads, expect, in_line, word_at, object_and_value, object_and_number, test_and_set_of, items_from, change_of, command_update, read_of, name_of, request_of, worded_load, load_of, watch_of, task_of};
 
-use crate::words::{at_end, bad, bytes_at, mode_at, number_at, object_at, value_at};
+use crate::words::{at_end, bad, bytes_at, is_line_word, mode_at, number_at, object_at, value_at};
 use crate::{Expected, Load, Request, Task, UsageError};
 use craq_names::{ClientId, Items, NodeId, Version};
 use craq_script::{MiniItem, ParseError, ScriptCommand, ScriptObject, UpdateLine, item_of};
@@ -69,10 +69,13 @@ fn test_and_set_of(alloc: Global, words: &[&str]) -> Result<ScriptCommand, Usage
     )
 }
 
-/// Reads the item that the word at a place names.
+/// Reads the item that the word at a place names, if the word can stand in a line of a script.
 fn item_at(alloc: Global, word: &str, place: usize) -> Result<MiniItem, UsageError>
-    ensures { Reads (λ x. x) result (expect place Expected.Item (item_of word.now)) }
+    ensures { Reads (λ x. x) result (expect place Expected.Item (in_line item_of word.now)) }
 {
+    if !is_line_word(word.as_bytes()) {
+        return Err(bad(place, Expected::Item));
+    }
     match item_of(alloc, word.as_bytes()) {
         Ok(item) => Ok(item),
         Err(ParseError::Memory) => Err(UsageError::Memory),
@@ -220,7 +223,7 @@ fn name_at(words: &[&str]) -> Result<Name, UsageError>
 }
 
 /// Returns the request of a command to this node: its name, and what that name asks for. Numbers,
-/// objects, values, modes and items are written as in scripts; a value may have any characters.
+/// objects, values, modes and items are written as in scripts: in printable ASCII without blanks.
 ///
 /// `Bad` with the first word that is not what is expected there, or is missing; `Memory` where a
 /// growth was refused.

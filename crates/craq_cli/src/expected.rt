@@ -97,7 +97,9 @@ impl Expected {
             Expected::Object => {
                 "OBJECT, a key of letters, digits, _ and -, or CHAIN/KEY with a chain of 16 bits"
             }
-            Expected::Value => "VALUE, a text, or 0x and pairs of hexadecimal digits in lower case",
+            Expected::Value => {
+                "VALUE, printable ASCII without blanks, or 0x and pairs of hexadecimal digits in lower case"
+            }
             Expected::Mode => "MODE, one of strong, eventual and bounded:K with K of 32 bits",
             Expected::Item => "ITEM, one of c:OBJECT:VERSION, r:OBJECT and w:OBJECT:VALUE",
             Expected::Connections => "CONNECTIONS, a number from 1 to 1000",

@@ -1,7 +1,8 @@
 //! Reads the word at a place of a command as a number, an object or another value; for `commands`.
 ghost use Rattle.std.specs.Prelude.{◌≡◌, ◌≤◌, map, option_map, slice_get, IfOk};
+ghost use Rattle.std.specs.List.{list_all};
 ghost use Rattle.craq_script.specs.Words.{script_object, script_value, mode_of};
-ghost use Rattle.craq_cli.specs.Commands.{Reads, word_at, at_end};
+ghost use Rattle.craq_cli.specs.Commands.{Reads, is_printable, in_line, word_at, at_end};
 ghost use Rattle.craq_cli.specs.Numbers.{number_between};
 
 use crate::numbers::number_between;
@@ -26,6 +27,14 @@ pub(crate) fn bytes_at<'a>(words: &[&'a str], place: usize) -> Option<&'a [u8]>
         Some(word) => Some(word.as_bytes()),
         None => None,
     }
+}
+
+/// Returns true if a word can stand in a line of a script: its characters are printable ASCII, and
+/// none is a blank.
+pub(crate) fn is_line_word(word: &[u8]) -> bool
+    ensures { result ≡ list_all is_printable word.now }
+{
+    word.iter().all(|c| b'!' <= *c && *c <= b'~')
 }
 
 /// Reads the number at a place, within these bounds.
@@ -67,13 +76,16 @@ pub(crate) fn object_at(
     }
 }
 
-/// Reads the bytes of the value at a place.
+/// Reads the bytes of the value at a place, of a word that can stand in a line of a script.
 pub(crate) fn value_at(alloc: Global, words: &[&str], place: usize) -> Result<Items<u8>, UsageError>
-    ensures { Reads (λ x. x) result (word_at Expected.Value script_value (map (λ w. w.now) words.now) place) }
+    ensures { Reads (λ x. x) result (word_at Expected.Value (in_line script_value) (map (λ w. w.now) words.now) place) }
 {
     let Some(word) = bytes_at(words, place) else {
         return Err(bad(place, Expected::Value));
     };
+    if !is_line_word(word) {
+        return Err(bad(place, Expected::Value));
+    }
     match script_value(alloc, word) {
         Ok(value) => Ok(value),
         Err(ParseError::Memory) => Err(UsageError::Memory),

@@ -110,6 +110,19 @@ NO_COMMAND = [
 # Values that fit no script line: an empty one, and characters other than printable ASCII.
 NO_VALUES = ["", "a b", "é", "a\tb", "a\nb", "\x7f", "\uf7ff"]
 
+# Command lines whose options are wrong, and how the message begins.
+NO_ADDRESS = "error: an address is HOST:PORT, as 127.0.0.1:7000\n"
+MIXED = [
+    ("--connect here --node 1 read strong k".split(), NO_ADDRESS),
+    ("--connect 127.0.0.1:99999 --node 1 read strong k".split(), NO_ADDRESS),
+    ("--connect 127.0.0.1:0 --node 1 put 1 1 k v".split(), NO_ADDRESS),
+    ("--connect :7000 shell".split(), NO_ADDRESS),
+    ("watch 1 --metrics 7004".split(), NO_ADDRESS),
+    ("--connect 127.0.0.1:1 --node 4 --chain b put 1 1 k v".split(), "error: options of verbs do not go with commands\n"),
+    ("--connect 127.0.0.1:1 --node 1 --json status".split(), "error: options of verbs do not go with commands\n"),
+    ([], "Asks a server of a replicated object store, and prints its answer\n"),
+]
+
 # Command lines that are none, without the address.
 NO_LINE = [
     [], ["read", "strong", "k"], ["--node", "01", "read", "strong", "k"], ["--node", "x", "read", "strong", "k"],
@@ -213,6 +226,9 @@ def no_commands(checks, craq, nowhere):
         item = f"w:k:{value}"
         status, out, err = running.ended([craq, "--connect", nowhere, "--node", "1", "mini", "1", "1", item])
         checks.same(f"craq mini 1 1 {item!r}", (status, out, is_told(err, item, "ITEM")), (2, "", True))
+    for given, told in MIXED:
+        status, out, err = running.ended([craq, *given])
+        checks.same(f"craq {' '.join(given)}", (status, out, err.startswith(told)), (2, "", True))
     for words in NO_LINE:
         status, out, err = running.ended([craq, *(["--connect", nowhere] if words else []), *words])
         checks.same(f"craq {' '.join(words)}", (status, out, err != ""), (2, "", True))
@@ -251,8 +267,8 @@ def asked_of(craq, reply):
 
 
 def helps(checks, craq, craqd):
-    for program, words in (craq, "set get cas add sub txn members health put tas append prepend inc dec mini read status shell watch bench "
-                              "--connect --node --pass --chain --client --number --hex --json --print-pass --connections --seconds --mix --keys --size --metrics"), (craqd, "--journal --connections --control --metrics stop remove join CHAIN/NODE PLAN ADDRESS"):
+    for program, words in (craq, "set get cas append prepend add sub txn members health put tas append prepend inc dec mini read status shell watch bench "
+                              "--connect --node --pass --chain --client --number --hex --decimal --json --print-pass --connections --seconds --mix --keys --size --metrics"), (craqd, "--journal --connections --control --metrics stop remove join CHAIN/NODE PLAN ADDRESS"):
         status, out, err = running.ended([program, "--help"])
         missing = [it for it in words.split() if it not in out]
         name = program.rpartition("/")[2]

@@ -55,8 +55,10 @@ ROWS = [
     ("members --json", 0, {"chains": [
         {"id": 0, "name": "a", "epoch": 1, "members": [1, 2, 3]},
         {"id": 1, "name": "b", "epoch": 1, "members": [4, 5]}]}, ""),
-    ("health", 0, "update N ms\nnode 1 N ms\nnode 2 N ms\nnode 3 N ms\n", ""),
-    ("health --chain b", 0, "update N ms\nnode 4 N ms\nnode 5 N ms\n", ""),
+    ("append end a", 0, "written 1\n", ""),
+    ("prepend end b", 0, "written 2\n", ""),
+    ("append end 63 --hex", 0, "written 3\n", ""),
+    ("get end", 0, "bac", ""),
     ("get health", 6, "", "craq: absent: the object was never written\n"),
     ("set -- --key --value", 0, "written 1\n", ""),
     ("get -- --key", 0, "--value", ""),
@@ -72,15 +74,36 @@ ROWS = [
     ("--chain nowhere set colour grey", 3, "", "craq: refused 7: there is no such chain\n"),
 ]
 
+# Of craq alone, behind these.
+CRAQ_ROWS = [
+    ("health", 0, "node 1 N ms\nnode 2 N ms\nnode 3 N ms\nupdate N ms\n", ""),
+    ("health --chain b", 0, "node 4 N ms\nnode 5 N ms\nupdate N ms\n", ""),
+    ("set w 7 --decimal", 0, "written 1\n", ""),
+    ("add w", 0, "written 2\n", ""),
+    ("get w --decimal", 0, "8\n", ""),
+    ("get w --json --decimal", 0, {"reply": "read", "version": 2, "number": 8}, ""),
+    ("get w --json --hex", 0, {"reply": "read", "version": 2, "value_hex": "0000000000000008"}, ""),
+    ("get colour --json --hex", 0, {"reply": "read", "version": 3, "value_hex": "726564"}, ""),
+    ("get colour --json --decimal", 0, {"reply": "read", "version": 3, "value": "red"}, ""),
+    (f"cas w 2 {MAX} --decimal", 0, "written 3\n", ""),
+    ("txn r:w w:x:1 --decimal", 0, f"done\n3 {MAX}\n", ""),
+    ("txn r:x --json --decimal", 0, {"reply": "done", "reads": [{"version": 1, "number": 1}]}, ""),
+    ("append w 1 --decimal", 0, "written 4\n", ""),
+    ("get w --hex", 0, "ffffffffffffffff0000000000000001\n", ""),
+]
+VALUE = ("craq: expected VALUE, a text; with --hex pairs of hexadecimal digits in lower case, with --decimal a number, "
+         "and found ")
+VERB = "craq: expected a verb, as set, get, cas, append, prepend, add, sub, txn, members or health, and found 'gett'\n"
+NO_ADDRESS = "error: an address is HOST:PORT, as 127.0.0.1:7000\n"
+
 # Wrong words: nothing is sent. What standard error has to have.
 WRONG = [
     ("get", "craq: expected KEY, of 1 to 128 bytes, and found the end of the words\n"),
     ("get a b", NO_MORE.format("b")),
-    ("set a", "craq: expected VALUE, a text, or with --hex pairs of hexadecimal digits in lower case, and found the "
-              "end of the words\n"),
+    ("set a", VALUE + "the end of the words\n"),
     ("set a b c", NO_MORE.format("c")),
-    ("set a xyz --hex", "craq: expected VALUE, a text, or with --hex pairs of hexadecimal digits in lower case, and "
-                        "found 'xyz'\n"),
+    ("set a xyz --hex", VALUE + "'xyz'\n"), ("set a x --decimal", VALUE + "'x'\n"),
+    (f"set a {MAX}0 --decimal", VALUE + f"'{MAX}0'\n"),
     ("cas a x b", "craq: expected VERSION, a number of 64 bits in decimal digits, and found 'x'\n"),
     ("add a x", "craq: expected BY, a number of 64 bits in decimal digits, and found 'x'\n"),
     ("txn x:a", "craq: expected ITEM, one of c:KEY:VERSION, r:KEY and w:KEY:VALUE, with a KEY without a colon, and "
@@ -92,8 +115,8 @@ WRONG = [
     ("txn " + " ".join(f"r:{it}" for it in range(17)), "craq: each list of a transaction has at most 16 items\n"),
     (f"get {LONG_KEY}", KEY_WORDS), (f"set {LONG_KEY} a", KEY_WORDS), (f"txn r:{LONG_KEY}", KEY_WORDS),
     (f"set a {LONG_VALUE}", "craq: a value has at most 4096 bytes\n"),
-    ("gett a", "craq: expected a verb, as set, get, cas, add, sub, txn, members or health, and found 'gett'\n"),
-    ("--node 1 gett a", "craq: expected a verb, as set, get, cas, add, sub, txn, members or health, and found 'gett'\n"),
+    ("gett a", VERB), ("--node 1 gett a", VERB), ("--connect a:1 --node 1 --json gett a", VERB),
+    ("append 1 1 k v", NO_MORE.format("k")),
     ("put 1 1 a b", "error: the following required arguments were not provided:\n  --connect <ADDRESS>\n  --node <N>\n"),
     ("members now", NO_MORE.format("now")), ("health now", NO_MORE.format("now")),
     ("get a --node x", "error: --node takes a number of 32 bits in decimal digits\n"),
@@ -102,6 +125,14 @@ WRONG = [
     ("set a b --client x", "error: --client takes a number of 64 bits in decimal digits\n"),
     ("set a b --number 0", "error: --number takes a number of 64 bits in decimal digits, and not 0\n"),
     ("get a --unknown", "error: unexpected argument '--unknown' found\n"),
+    ("get a --connect localhost", NO_ADDRESS), ("get a --connect 127.0.0.1:99999", NO_ADDRESS),
+    ("get a --connect :7000", NO_ADDRESS), ("get a --connect a:070", NO_ADDRESS),
+    ("set a 1 --hex --decimal", "error: --hex and --decimal do not go together\n"),
+    *((f"{words} --{it}", f"error: --{it.split()[0]} has no meaning for {words.split()[0]}\n") for words, options in (
+        ("set a b", ["mode eventual"]), ("append a b", ["mode strong"]), ("txn r:a", ["mode strong"]),
+        ("add a", ["mode strong", "hex", "decimal"]), ("sub a 1", ["hex"]), ("get a", ["client 7", "number 7"]),
+        ("members", ["node 1", "chain a", "mode strong", "client 7", "number 7", "hex", "decimal", "print-pass"]),
+        ("health", ["node 1", "mode strong", "number 7", "hex", "decimal", "print-pass"])) for it in options),
 ]
 
 # Lines of a prompt: the line, the answer on standard output, and standard error.
@@ -117,9 +148,14 @@ ENTERED = [
     ("cas k 1 d", "mismatch 3", None),
     ("set k -", "written 4", None),
     ("get k --json", '{"reply":"read","version":4,"value":"-","pass":N}', None),
-    ("set k", None, "craq: expected VALUE, a text, or with --hex pairs of hexadecimal digits in lower case, and found "
-                    "the end of the words"),
-    ("get k --connect here", None, "error: the prompt stays at its server: --connect stands before it"),
+    ("set k", None, VALUE + "the end of the words"),
+    ("node 1", None, None),
+    ("append 7 2 k x", "written 5", None),
+    ("prepend k y", "written 6", None),
+    ("get k", "y-x", None),
+    ("get k", "y-x", None),
+    ("append k 1 --node 2", None, "craq: refused 9 1: updates go to the head of the chain, node 1"),
+    ("get k --connect here:1", None, "error: the prompt stays at its server: --connect stands before it"),
     ("members", "a: 1 2 3\nb: 4 5", None),
 ]
 
@@ -171,7 +207,7 @@ def in_python(checks, craqd, home):
 
 def verbs(checks, server, craq, home):
     env = environment(home, CRAQ_CONNECT=server.address)
-    for row in ROWS:
+    for row in ROWS + CRAQ_ROWS:
         check_row(checks, craq, env, row)
     kept = os.path.join(home, ".local/state/jilsdau/client")
     with open(kept, encoding="ascii") as it:
@@ -222,7 +258,14 @@ def ids(checks, server, craq, home):
     with open(os.path.join(state, "jilsdau/client"), "w", encoding="ascii") as it:
         it.write("none\n")
     found = ran([craq, "set", "id", "c"], {**env, "XDG_STATE_HOME": state})
-    checks.same("craq set with a file that holds no id", found[:2], (2, b""))
+    checks.same("craq set with a file that holds no id", found, (
+        2, b"", "craq: the file $XDG_STATE_HOME/jilsdau/client holds no client id, a number of 64 bits\n"))
+    os.makedirs(os.path.join(state, ".local/state/jilsdau"))
+    with open(os.path.join(state, ".local/state/jilsdau/client"), "w", encoding="ascii") as it:
+        it.write("-1\n")
+    found = ran([craq, "set", "id", "c"], {**env, "HOME": state})
+    checks.same("craq set with a file at home that holds no id", found, (
+        2, b"", "craq: the file ~/.local/state/jilsdau/client holds no client id, a number of 64 bits\n"))
     homeless = {name: it for name, it in env.items() if name != "HOME"}
     checks.same("craq set without a home", ran([craq, "set", "id", "c"], homeless), (0, b"written 4\n", ""))
     checks.same("craq set where no folder can be made",
@@ -244,6 +287,10 @@ def wrong(checks, craq, home, nowhere):
     found = ran([craq, "get", ""], env)
     checks.same("craq get with an empty key", found, (2, b"", KEY_WORDS))
     checks.same("craq alone", ran([craq], env)[:2], (2, b""))
+    for words in "get a", "watch 1", "shell":
+        found = ran([craq, *words.split()], {**env, "CRAQ_CONNECT": "foo"})
+        checks.same(f"craq {words} with a CRAQ_CONNECT that is none", found, (
+            2, b"", "craq: the variable CRAQ_CONNECT holds no address: an address is HOST:PORT, as 127.0.0.1:7000\n"))
     for words in "get a", "set a b", "members", "health":
         found = ran([craq, *words.split()], env)
         checks.same(f"craq {words} where nothing listens", found, (4, b"", f"craq: no server answers at {nowhere}\n"))
@@ -318,10 +365,10 @@ def prompt(checks, server, craq, home):
 
 
 def prompt_values(checks, server, craq, home):
-    """A get without a line feed runs into the next answer; the help has all verbs."""
+    """The help has all verbs."""
     env = environment(home, CRAQ_CONNECT=server.address)
     status, out, err = ran([craq, "shell"], env, b"help\n")
-    missing = [it for it in "set get cas add sub txn members health put read".split() if it not in out.decode()]
+    missing = [it for it in "set get cas append prepend add sub txn members health put read".split() if it not in out.decode()]
     checks.same("craq shell: help has the verbs", (status, missing, err), (0, [], ""))
 
 

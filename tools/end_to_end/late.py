@@ -166,6 +166,8 @@ def judge(checks, words, server, ran, wanted):
     checks.same(f"{what}: it may have been done", "may have been done" in ran.err, is_open)
     check_time(checks, what, server.began, ran)
     checks.that(len(set(server.updates)) <= 1 or "health" in words, f"{what}: one update, and not {server.updates}")
+    if words == ["health"] and server.answer is told:
+        checks.same(f"{what}: its members", ran.out, "".join(f"node {it} no reply within 2 s\n" for it in (1, 2, 3)))
     if not is_tried_once(words) and "--metrics" not in words:
         checks.that(server.tries >= 2, f"{what} is tried again: {server.tries}")
     server.close()
@@ -181,6 +183,13 @@ def stopped(checks, craqd, craq, home):
                  [sys.executable, JILSDAU, "--connect", address, "set", "two", "v"]]
         with concurrent.futures.ThreadPoolExecutor() as pool:
             found = list(pool.map(lambda words: Run(words, env), lines))
+        for options, out in ([], "node 1 N ms\nnode 2 N ms\nnode 3 stopped\nupdate not tried\n"), (
+                ["--json"], '{"update_seconds":null,"read_seconds":{"1":N,"2":N},"failed":{"3":"stopped"},"pass":N}\n'):
+            ran = Run([craq, "--connect", address, "health", *options], env)
+            seen = re.sub(r"[0-9]+\.[0-9]+|(?<=pass\":)[0-9]+", "N", ran.out)
+            checks.same(f"health {options} at a stopped member", (ran.status, seen, ran.err), (
+                3, out, "craq: remove the stopped node 3: updates wait until then\n"))
+            checks.that(ran.ended - ran.began < LEAST, f"health at a stopped member takes {ran.ended - ran.began:.1f} s")
         checks.same("remove", server.ask("remove a/3"), ["a/3 removed"])
         check_time(checks, "an update at a stopped member", found[0].began, found[0])
         for words, ran in zip(lines, found):

@@ -49,6 +49,32 @@ struct Outcome {
     fault: Option<Fault>,
 }
 
+/// The display of a load's progress.
+#[derive(Clone, Copy, Debug, PartialEq, Eq)]
+pub enum Progress {
+    Shown,
+    Hidden,
+}
+
+/// The end of a request.
+#[derive(Clone, Copy, Debug, PartialEq, Eq)]
+enum Ended {
+    /// It was done.
+    Done,
+    /// It was refused, or wrote nothing.
+    Refused,
+}
+
+/// A load on a node.
+#[derive(Clone, Copy)]
+struct NodeLoad<'a> {
+    asker: Asker<'a>,
+    load: Load,
+    /// The value of each put.
+    value: &'a [u8],
+    progress: Progress,
+}
+
 /// The client of one connection of a load.
 #[derive(Clone, Copy)]
 struct Caller<'a> {
@@ -144,11 +170,10 @@ pub fn microseconds(from: Duration, to: Duration) -> u64 {
 }
 
 /// Counts a reply with its time, or a refusal.
-fn count(tally: &mut Tally, is_refused: bool, microseconds: u64) {
-    if is_refused {
-        tally.refuse()
-    } else {
-        tally.answer(microseconds)
+fn count(tally: &mut Tally, ended: Ended, microseconds: u64) {
+    match ended {
+        Ended::Done => tally.answer(microseconds),
+        Ended::Refused => tally.refuse(),
     }
 }
 
@@ -167,27 +192,31 @@ fn message_of(
     }
 }
 
-/// Returns whether a request was not done: it is refused, or a put did not write.
-const fn is_refusal(reply: &ClientReply) -> bool {
+/// Returns the end of a request with this reply: it is not done if it is refused, or a put did not
+/// write.
+const fn end_of(reply: &ClientReply) -> Ended {
     match reply {
-        ClientReply::Refused(_) => true,
-        ClientReply::Update { reply, .. } => !matches!(reply, Reply::Written(_)),
-        _ => false,
+        ClientReply::Refused(_) => Ended::Refused,
+        ClientReply::Update { reply, .. } => match reply {
+            Reply::Written(_) => Ended::Done,
+            _ => Ended::Refused,
+        },
+        _ => Ended::Done,
     }
 }
 
-/// Sends a message over a connection. Returns whether the request was not done, and the connection.
+/// Sends a message over a connection. Returns the end of the request, and the connection.
 fn ask_over(
     alloc: Global,
     stream: TcpStream,
     message: ClientMessage,
-) -> Result<(bool, TcpStream), Fault> {
+) -> Result<(Ended, TcpStream), Fault> {
     let asked = exchange_over(alloc, stream, &message);
     drop(message);
     let (reply, stream) = asked?;
-    let is_refused = is_refusal(&reply);
+    let ended = end_of(&reply);
     drop(reply);
-    Ok((is_refused, stream))
+    Ok((ended, stream))
 }
 
 /// Connects to the server. Each read and each write of the connection may take 20 seconds.
@@ -227,12 +256,12 @@ where
         }
         let put = if is_read { None } else { Some(put) };
         let message = message_of(rt.alloc(), caller, number, put)?;
-        let (is_refused, back) = ask_over(rt.alloc(), stream, message)?;
+        let (ended, back) = ask_over(rt.alloc(), stream, message)?;
         stream = back;
-        let ended = now(rt)?;
+        let after = now(rt)?;
         let tally = if is_read { &mut *reads } else { &mut *puts };
-        count(tally, is_refused, microseconds(began, ended));
-        began = ended;
+        count(tally, ended, microseconds(began, after));
+        began = after;
     }
     Ok(())
 }
@@ -355,26 +384,19 @@ fn value_of(alloc: Global, size: u64) -> Result<Vec<u8>, AllocError> {
 }
 
 /// Runs all connections of a load at once, and waits for them.
-fn run_load<'a, R>(
-    rt: R,
-    asker: &Asker<'a>,
-    load: &Load,
-    value: &'a [u8],
-    has_progress: bool,
-    outcome: &Mutex<Outcome>,
-) -> Result<(), Fault>
+fn run_load<'a, R>(rt: R, load: &NodeLoad<'a>, outcome: &Mutex<Outcome>) -> Result<(), Fault>
 where
     R: AllocGlobal + Eprint + Clock + Threads + Wait,
     R: Net<Listener = TcpListener, Stream = TcpStream> + Copy + Drop + Send + Sync + 'static,
 {
-    let until = now(&rt)?.saturating_add(Duration::from_secs(load.seconds));
+    let until = now(&rt)?.saturating_add(Duration::from_secs(load.load.seconds));
     let before = nanoseconds(&rt)?;
     thread::scope(thread::scope_env(), &rt, |scope| {
-        for index in 0..load.connections {
+        for index in 0..load.load.connections {
             let caller = Caller {
-                asker: asker.same(),
-                load: *load,
-                value,
+                asker: load.asker.same(),
+                load: load.load,
+                value: load.value,
                 index,
                 before,
                 until,
@@ -386,8 +408,8 @@ where
                 return Err(Fault::Memory);
             }
         }
-        if has_progress {
-            tell_progress(&rt, load.seconds);
+        if load.progress == Progress::Shown {
+            tell_progress(&rt, load.load.seconds);
         }
         Ok(())
     })
@@ -410,7 +432,7 @@ fn nanoseconds<R: Clock>(rt: &R) -> Result<u64, Fault> {
 /// each under way. Prints the counts of answers and refusals, the times within which half, 95 and
 /// 99 of 100 and all of the answers came, and a histogram of these times. Each connection puts as a
 /// client of its own, the same one in each run.
-pub fn bench<R>(rt: R, asker: &Asker<'_>, load: &Load, has_progress: bool) -> Result<u8, Fault>
+pub fn bench<R>(rt: R, asker: &Asker<'_>, load: &Load, progress: Progress) -> Result<u8, Fault>
 where
     R: AllocGlobal + Print + Eprint + Clock + Threads + Wait,
     R: Net<Listener = TcpListener, Stream = TcpStream> + Copy + Drop + Send + Sync + 'static,
@@ -421,7 +443,13 @@ where
         fault: None,
     });
     let value = value_of(rt.alloc(), load.size)?;
-    run_load(rt, asker, load, value.as_slice(), has_progress, &outcome)?;
+    let node_load = NodeLoad {
+        asker: asker.same(),
+        load: *load,
+        value: value.as_slice(),
+        progress,
+    };
+    run_load(rt, &node_load, &outcome)?;
     let Outcome { reads, puts, fault } = outcome.into_inner();
     print_outcome(&rt, &reads, &puts, load.seconds)?;
     match fault {

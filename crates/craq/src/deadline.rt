@@ -51,7 +51,14 @@ impl Deadline {
     pub fn of_try<R: Clock>(self, rt: &R) -> Deadline
         ensures { instant_nanos result.end ≤ instant_nanos self.end }
     {
-        match seconds_from_now(rt, TRY_SECONDS) {
+        self.within(rt, TRY_SECONDS)
+    }
+
+    /// Returns the time this many seconds from now, or this deadline if it is earlier.
+    pub fn within<R: Clock>(self, rt: &R, seconds: u64) -> Deadline
+        ensures { instant_nanos result.end ≤ instant_nanos self.end }
+    {
+        match seconds_from_now(rt, seconds) {
             Some(end) if time_between(end, self.end).is_some() => Deadline { end },
             _ => self,
         }

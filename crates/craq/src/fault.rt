@@ -1,7 +1,7 @@
 //! Why `craq` ends without an answer once its command line was read, with the text and the status
 //! of each reason; for the modules of `craq`.
 use crate::link::Failure;
-use craq_cli::{BAD_INPUT, CANNOT_PRINT, report_memory};
+use craq_cli::{ADDRESS_FORM, BAD_INPUT, CANNOT_PRINT, report_memory};
 use std::alloc::{AllocError, AllocFailed};
 use std::io;
 
@@ -16,8 +16,10 @@ pub const NO_CONNECTION: u8 = 4;
 pub enum IdSource {
     /// The variable `CRAQ_CLIENT`.
     Variable,
-    /// The file in the state folder.
-    File,
+    /// The file in the folder `$XDG_STATE_HOME`.
+    StateFolder,
+    /// The file in the folder `~/.local/state`.
+    Home,
 }
 
 /// Reasons for no answer.
@@ -33,6 +35,8 @@ pub enum Fault {
     CannotPrint(io::Error),
     /// A client's id was no number of 64 bits.
     BadId(IdSource),
+    /// The variable `CRAQ_CONNECT` holds no address.
+    BadAddress,
 }
 
 impl<T: Drop> From<AllocFailed<T>> for Fault {
@@ -56,7 +60,8 @@ impl IdSource {
     const fn place(self) -> &'static str {
         match self {
             IdSource::Variable => "the variable CRAQ_CLIENT",
-            IdSource::File => "the file jilsdau/client in the state folder, ~/.local/state,",
+            IdSource::StateFolder => "the file $XDG_STATE_HOME/jilsdau/client",
+            IdSource::Home => "the file ~/.local/state/jilsdau/client",
         }
     }
 }
@@ -84,6 +89,10 @@ impl Fault {
             Fault::BadId(source) => {
                 let place = source.place();
                 eprintln!(rt; "craq: {place} holds no client id, a number of 64 bits")?;
+                Ok(BAD_INPUT)
+            }
+            Fault::BadAddress => {
+                eprintln!(rt; "craq: the variable CRAQ_CONNECT holds no address: {ADDRESS_FORM}")?;
                 Ok(BAD_INPUT)
             }
         }

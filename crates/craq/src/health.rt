@@ -1,14 +1,16 @@
-//! Measures a chain: an update through all of its nodes, and a strong read at each member; for
+//! Examines a chain: a strong read at each member, and an update through all of its nodes; for
 //! `people`.
-use crate::asking::{Target, answered};
+use crate::asking::{Target, answered, known_chains};
 use crate::bench::microseconds;
-use crate::chains::{chains, members_of};
+use crate::chains::members_of;
+use crate::fault::{Fault, NO_CONNECTION, REFUSED};
 use crate::link::{Failure, Link};
-use crate::output::Times;
+use crate::output::{health_json, member_line, update_line};
+use crate::reporting::{print_json, report_failure, tell, write_out};
 use craq_cli::Request;
 use craq_commands::{ReadMode, Reply};
 use craq_frames::ClientReply;
-use craq_names::{ClientId, Items, NodeId, Version};
+use craq_names::{ClientId, Items, NodeId, Refusal, Version};
 use craq_script::{ScriptCommand, ScriptObject, UpdateLine};
 use std::alloc::{AllocError, Global};
 use std::net::{Net, TcpListener, TcpStream};
@@ -17,6 +19,31 @@ use std::time::{Clock, Duration};
 
 /// The key of the object that is asked.
 const HEALTH_KEY: &str = "health";
+
+/// The seconds that the read at a member may take.
+pub const READ_SECONDS: u64 = 2;
+
+/// The result of a read at a member.
+#[derive(Clone, Copy, Debug)]
+pub enum Seen {
+    /// It was answered after this many microseconds.
+    Read(u64),
+    /// The member is stopped.
+    Stopped,
+    /// No reply came in time.
+    Silent,
+    /// The member refused it.
+    Refused(Refusal),
+}
+
+/// The form of the output.
+#[derive(Clone, Copy, Debug, PartialEq, Eq)]
+pub enum OutputForm {
+    /// A line for each member, at once, and one for the update.
+    Text,
+    /// A JSON object in the end.
+    Json,
+}
 
 /// Returns the object that is asked.
 fn health_object(alloc: Global, target: &Target) -> Result<ScriptObject, AllocError> {
@@ -127,7 +154,7 @@ fn note_read(target: &mut Target, reply: &ClientReply) -> Result<(), Failure> {
     }
 }
 
-/// Asks a strong read of this node.
+/// Asks a strong read of this node, which may take 2 seconds.
 fn ask_read<R>(
     rt: &R,
     link: &mut Link<'_>,
@@ -140,6 +167,7 @@ where
     let request = health_read(rt.alloc(), target)?;
     let mut there = *target;
     there.pinned = Some(node);
+    there.deadline = target.deadline.within(rt, READ_SECONDS);
     let asked = answered(rt, link, &mut there, &request);
     drop(request);
     match asked {
@@ -148,12 +176,12 @@ where
     }
 }
 
-/// Returns the members of the target's chain.
+/// Returns the members of the target's chain. Asks for them until they come or the target's deadline.
 fn members<R>(rt: &R, link: &mut Link<'_>, target: &Target) -> Result<Vec<NodeId>, Failure>
 where
-    R: AllocGlobal + Clock + Net<Listener = TcpListener, Stream = TcpStream>,
+    R: AllocGlobal + Clock + Wait + Net<Listener = TcpListener, Stream = TcpStream>,
 {
-    let chains = chains(rt, link, target.deadline.of_try(rt))?;
+    let chains = known_chains(rt, link, target.deadline)?;
     let members = members_of(chains.as_slice(), target.chain)?;
     Ok(Vec::from_slice(rt.alloc(), members)?)
 }
@@ -166,24 +194,160 @@ fn time<R: Clock>(rt: &R) -> Result<Duration, Failure> {
     }
 }
 
-/// Measures the target's chain, and raises the target's pass to those of the replies. The seed of
-/// the target is the number of the update.
-pub fn times<R>(
+/// Asks a strong read of a member, and returns what was seen. Fails if the server or this program
+/// fails, and not a single member.
+fn look<R>(rt: &R, link: &mut Link<'_>, target: &mut Target, node: NodeId) -> Result<Seen, Failure>
+where
+    R: AllocGlobal + Clock + Wait + Net<Listener = TcpListener, Stream = TcpStream>,
+{
+    let began = time(rt)?;
+    match ask_read(rt, link, target, node) {
+        Ok(()) => Ok(Seen::Read(microseconds(began, time(rt)?))),
+        Err(Failure::Late) => Ok(Seen::Silent),
+        Err(Failure::Refused(Refusal::Stopped)) => Ok(Seen::Stopped),
+        Err(Failure::Refused(refusal)) => Ok(Seen::Refused(refusal)),
+        Err(failure) => Err(failure),
+    }
+}
+
+/// Prints the line of a member.
+fn print_member<R: AllocGlobal + Print>(rt: &R, node: NodeId, seen: &Seen) -> Result<(), Fault> {
+    let line = member_line(rt.alloc(), node, seen)?;
+    write_out(rt, line.as_str().as_bytes())
+}
+
+/// Looks at each member in turn, and prints its line at once if the output is text.
+fn look_at_all<R>(
+    rt: &R,
+    link: &mut Link<'_>,
+    target: &mut Target,
+    members: &[NodeId],
+    form: OutputForm,
+) -> Result<Result<Vec<(NodeId, Seen)>, Failure>, Fault>
+where
+    R: AllocGlobal + Print + Clock + Wait + Net<Listener = TcpListener, Stream = TcpStream>,
+{
+    let mut all = Vec::new(rt.alloc());
+    for node in members {
+        let seen = match look(rt, link, target, *node) {
+            Ok(seen) => seen,
+            Err(failure) => return Ok(Err(failure)),
+        };
+        if form == OutputForm::Text {
+            print_member(rt, *node, &seen)?;
+        }
+        all.push((*node, seen))?;
+    }
+    Ok(Ok(all))
+}
+
+/// Prints the time of the update, or that none was asked; as JSON with what was seen of the members.
+fn print_update<R: AllocGlobal + Print>(
+    rt: &R,
+    target: &Target,
+    members: &[(NodeId, Seen)],
+    update: Option<u64>,
+    form: OutputForm,
+) -> Result<(), Fault> {
+    if form == OutputForm::Json {
+        let text = health_json(rt.alloc(), update, members)?;
+        return print_json(rt, text.as_str(), target.pass);
+    }
+    match update {
+        Some(microseconds) => {
+            let line = update_line(rt.alloc(), microseconds)?;
+            write_out(rt, line.as_str().as_bytes())
+        }
+        None if has_stopped(members) => write_out(rt, b"update not tried\n".as_slice()),
+        None => Ok(()),
+    }
+}
+
+/// Returns true if a member is stopped.
+fn has_stopped(members: &[(NodeId, Seen)]) -> bool {
+    members
+        .iter()
+        .any(|member| matches!(member.1, Seen::Stopped))
+}
+
+/// Says which members are to be removed.
+fn advise<R: AllocGlobal + Eprint>(rt: &R, members: &[(NodeId, Seen)]) -> Result<(), Fault> {
+    for (node, seen) in members {
+        if matches!(seen, Seen::Stopped) {
+            let node = node.get();
+            let text = format!(in rt.alloc();
+                "remove the stopped node {node}: updates wait until then"
+            )?;
+            tell(rt, text.as_str())?;
+        }
+    }
+    Ok(())
+}
+
+/// Returns the status by what was seen of the members.
+fn status_of(members: &[(NodeId, Seen)]) -> u8 {
+    if members.iter().any(|member| matches!(member.1, Seen::Silent)) {
+        return NO_CONNECTION;
+    }
+    if members.iter().all(|member| matches!(member.1, Seen::Read(_))) {
+        0
+    } else {
+        REFUSED
+    }
+}
+
+/// Times the update unless a member is stopped, behind which it would wait, and prints the rest of
+/// what was seen. Returns the status.
+fn finish<R>(
     rt: &R,
     link: &mut Link<'_>,
     target: &mut Target,
     client: u64,
-) -> Result<Times, Failure>
+    seen: (&[(NodeId, Seen)], OutputForm),
+) -> Result<u8, Fault>
 where
-    R: AllocGlobal + Clock + Wait + Net<Listener = TcpListener, Stream = TcpStream>,
+    R: AllocGlobal + Print + Eprint + Clock + Wait,
+    R: Net<Listener = TcpListener, Stream = TcpStream>,
 {
-    let update = update_time(rt, link, target, client)?;
-    let members = members(rt, link, target)?;
-    let mut reads = Vec::new(rt.alloc());
-    for node in &members {
-        let began = time(rt)?;
-        ask_read(rt, link, target, *node)?;
-        reads.push((*node, microseconds(began, time(rt)?)))?;
+    let (members, form) = seen;
+    if has_stopped(members) {
+        print_update(rt, target, members, None, form)?;
+        advise(rt, members)?;
+        return Ok(status_of(members));
     }
-    Ok(Times { update, reads })
+    match update_time(rt, link, target, client) {
+        Ok(update) => {
+            print_update(rt, target, members, Some(update), form)?;
+            Ok(status_of(members))
+        }
+        Err(failure) => {
+            print_update(rt, target, members, None, form)?;
+            report_failure(rt, link, failure)
+        }
+    }
+}
+
+/// Examines the target's chain: reads at each member in turn, which may take 2 seconds each, and then
+/// times an update through the whole chain. Prints what it sees, and what to do about stopped members.
+/// Raises the target's pass to those of the replies. The seed of the target is the number of the
+/// update. Returns the status.
+pub fn examine<R>(
+    rt: &R,
+    link: &mut Link<'_>,
+    target: &mut Target,
+    client: u64,
+    form: OutputForm,
+) -> Result<u8, Fault>
+where
+    R: AllocGlobal + Print + Eprint + Clock + Wait,
+    R: Net<Listener = TcpListener, Stream = TcpStream>,
+{
+    let members = match members(rt, link, target) {
+        Ok(members) => members,
+        Err(failure) => return report_failure(rt, link, failure),
+    };
+    match look_at_all(rt, link, target, members.as_slice(), form)? {
+        Ok(seen) => finish(rt, link, target, client, (seen.as_slice(), form)),
+        Err(failure) => report_failure(rt, link, failure),
+    }
 }

@@ -1,6 +1,7 @@
 //! The defaults of verbs for people: the address of the server, and the client's id, which is drawn
 //! once and kept; for `main`, `people` and `shell`.
 use crate::fault::{Fault, IdSource};
+use craq_cli::is_address;
 use craq_script::number_up_to;
 use std::alloc::Global;
 use std::env::{Env, VarError};
@@ -21,24 +22,40 @@ fn variable<R: AllocGlobal + Env>(rt: &R, name: &str) -> Result<Option<String>, 
     }
 }
 
-/// Returns the variable `CRAQ_CONNECT`, or 127.0.0.1:7000 if it is missing or empty.
+/// Returns the variable `CRAQ_CONNECT`, or 127.0.0.1:7000 if it is missing or empty. `BadAddress` if
+/// it is not HOST:PORT.
 pub fn default_address<R: AllocGlobal + Env>(rt: &R) -> Result<String, Fault> {
     match variable(rt, "CRAQ_CONNECT")? {
+        Some(address) if !is_address(address.as_str().as_bytes())? => Err(Fault::BadAddress),
         Some(address) => Ok(address),
         None => Ok(String::from_str(rt.alloc(), ADDRESS)?),
     }
 }
 
+/// The folder of the client's id.
+#[derive(Drop)]
+struct StateFolder {
+    path: String,
+    /// The place of the id, by the variable that names the folder.
+    source: IdSource,
+}
+
 /// Returns the folder of the client's id, in the state folder of the XDG standard; `None` if the
 /// environment names no such folder.
-fn state_folder<R: AllocGlobal + Env>(rt: &R) -> Result<Option<String>, Fault> {
+fn state_folder<R: AllocGlobal + Env>(rt: &R) -> Result<Option<StateFolder>, Fault> {
     if let Some(folder) = variable(rt, "XDG_STATE_HOME")? {
         if folder.starts_with("/") {
-            return Ok(Some(format!(in rt.alloc(); "{folder}/jilsdau")?));
+            return Ok(Some(StateFolder {
+                path: format!(in rt.alloc(); "{folder}/jilsdau")?,
+                source: IdSource::StateFolder,
+            }));
         }
     }
     match variable(rt, "HOME")? {
-        Some(home) => Ok(Some(format!(in rt.alloc(); "{home}/.local/state/jilsdau")?)),
+        Some(home) => Ok(Some(StateFolder {
+            path: format!(in rt.alloc(); "{home}/.local/state/jilsdau")?,
+            source: IdSource::Home,
+        })),
         None => Ok(None),
     }
 }
@@ -74,13 +91,15 @@ fn drawn_id<R: Clock + RandomSource>(rt: &R) -> Result<u64, Fault> {
 }
 
 /// Returns the id that a file keeps; `None` if there is no file that can be read.
-fn kept_id<R: AllocGlobal + Files>(rt: &R, file: &str) -> Result<Option<u64>, Fault> {
+fn kept_id<R: AllocGlobal + Files>(
+    rt: &R,
+    file: &str,
+    source: IdSource,
+) -> Result<Option<u64>, Fault> {
     match fs::read_to_string(rt, file) {
-        Ok(text) => Ok(Some(id_in(text.as_str(), IdSource::File)?)),
+        Ok(text) => Ok(Some(id_in(text.as_str(), source)?)),
         Err(error) if error.kind() == ErrorKind::OutOfMemory => Err(Fault::Memory),
-        Err(error) if error.kind() == ErrorKind::InvalidData => {
-            Err(Fault::BadId(IdSource::File))
-        }
+        Err(error) if error.kind() == ErrorKind::InvalidData => Err(Fault::BadId(source)),
         Err(_) => Ok(None),
     }
 }
@@ -100,17 +119,18 @@ fn keep_id<R: AllocGlobal + Files>(rt: &R, folder: &str, file: &str, id: u64) ->
 
 /// Returns the id that is kept in the folder, or a new one, which is kept for the next call if the
 /// folder can be written.
-fn id_of_folder<R>(rt: &R, folder: &str) -> Result<u64, Fault>
+fn id_of_folder<R>(rt: &R, folder: &StateFolder) -> Result<u64, Fault>
 where
     R: AllocGlobal + Files + Clock + RandomSource,
 {
-    let file = format!(in rt.alloc(); "{folder}/client")?;
-    if let Some(id) = kept_id(rt, file.as_str())? {
+    let path = folder.path.as_str();
+    let file = format!(in rt.alloc(); "{path}/client")?;
+    if let Some(id) = kept_id(rt, file.as_str(), folder.source)? {
         return Ok(id);
     }
     let drawn = drawn_id(rt)?;
-    keep_id(rt, folder, file.as_str(), drawn)?;
-    Ok(kept_id(rt, file.as_str())?.unwrap_or(drawn))
+    keep_id(rt, path, file.as_str(), drawn)?;
+    Ok(kept_id(rt, file.as_str(), folder.source)?.unwrap_or(drawn))
 }
 
 /// Returns the client's id: the variable `CRAQ_CLIENT`, else the id that is kept, else a new one.
@@ -125,7 +145,7 @@ where
         return id_in(text.as_str(), IdSource::Variable);
     }
     match state_folder(rt)? {
-        Some(folder) => id_of_folder(rt, folder.as_str()),
+        Some(folder) => id_of_folder(rt, &folder),
         None => drawn_id(rt),
     }
 }

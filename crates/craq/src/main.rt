@@ -15,6 +15,7 @@ mod output;
 mod people;
 mod positions;
 mod quoting;
+mod reporting;
 mod session;
 mod shell;
 mod tally;
@@ -22,6 +23,7 @@ mod timed;
 mod watch;
 
 use asking::known_chains;
+use bench::Progress;
 use calling::{Asker, Shown, explain, shown_over};
 use chains::members_of;
 use craq_cli::{
@@ -33,6 +35,7 @@ use deadline::Deadline;
 use fault::{Fault, REFUSED};
 use identity::default_address;
 use link::Link;
+use output::ValueEnd;
 use people::{Setting, run_verb};
 use shell::Terminals;
 use std::env::Env;
@@ -95,6 +98,24 @@ where
     }
 }
 
+/// Returns what follows a value that is printed as it is: a line feed on a terminal.
+fn value_end_at(terminals: Terminals) -> ValueEnd {
+    if terminals.output {
+        ValueEnd::LineFeed
+    } else {
+        ValueEnd::Nothing
+    }
+}
+
+/// Returns whether a load shows its progress: on a terminal.
+fn progress_at(terminals: Terminals) -> Progress {
+    if terminals.errors {
+        Progress::Shown
+    } else {
+        Progress::Hidden
+    }
+}
+
 /// Runs a verb for people. Returns the status.
 fn run_person<R>(
     rt: &R,
@@ -111,7 +132,7 @@ where
     let mut setting = Setting {
         node: line.node,
         pass: line.pass,
-        at_terminal: terminals.output,
+        value_end: value_end_at(terminals),
         reads_input: true,
     };
     run_verb(rt, &mut link, &mut setting, verb)
@@ -136,7 +157,7 @@ where
     };
     match &line.task {
         Task::Ask(request) => ask_once(&rt, &mut link, &asker, request),
-        Task::Bench(load) => bench::bench(rt, &asker, load, terminals.errors),
+        Task::Bench(load) => bench::bench(rt, &asker, load, progress_at(terminals)),
         _ => shell::shell(&rt, link, &asker, terminals),
     }
 }

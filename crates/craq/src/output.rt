@@ -1,5 +1,6 @@
 //! The output of verbs for people: a reply as text or as a JSON object; for `people`.
 use crate::chains::Chain;
+use crate::health::{READ_SECONDS, Seen};
 use craq_cli::{ValueForm, VerbOptions};
 use craq_commands::Reply;
 use craq_frames::ClientReply;
@@ -8,13 +9,13 @@ use craq_script::print_reply;
 use serde_json::Value as Json;
 use std::alloc::{AllocError, Global};
 
-/// The times of a chain: of an update through the whole chain, and of a read at each member.
-#[derive(Drop)]
-pub struct Times {
-    /// The microseconds of the update.
-    pub update: u64,
-    /// Each member with the microseconds of the read.
-    pub reads: Vec<(NodeId, u64)>,
+/// The end of a value that is printed as it is.
+#[derive(Clone, Copy, Debug, PartialEq, Eq)]
+pub enum ValueEnd {
+    /// Nothing: the output has the bytes of the value alone.
+    Nothing,
+    /// A line feed.
+    LineFeed,
 }
 
 /// Appends a text to the output.
@@ -57,7 +58,7 @@ fn push_value(
         return push_text(out, hexadecimal(alloc, bytes)?.as_str());
     }
     match number_of(bytes) {
-        Some(number) if options.is_decimal => {
+        Some(number) if options.form == ValueForm::Decimal => {
             push_text(out, format!(in alloc; "{number}")?.as_str())
         }
         _ => {
@@ -101,11 +102,8 @@ fn push_update_reply(
 }
 
 /// Returns true if a line feed follows a value that was read.
-fn ends_line(options: &VerbOptions<'_>, at_terminal: bool) -> bool {
-    options.form == ValueForm::Hexadecimal
-        || options.is_decimal
-        || options.prints_pass
-        || at_terminal
+fn ends_line(options: &VerbOptions<'_>, value_end: ValueEnd) -> bool {
+    options.form != ValueForm::Bytes || options.prints_pass || value_end == ValueEnd::LineFeed
 }
 
 /// Returns a reply as text. An object that was never written has no text. Fails only when out of
@@ -114,7 +112,7 @@ pub fn reply_text(
     alloc: Global,
     reply: &ClientReply,
     options: &VerbOptions<'_>,
-    at_terminal: bool,
+    value_end: ValueEnd,
 ) -> Result<Vec<u8>, AllocError> {
     let mut out = Vec::new(alloc);
     match reply {
@@ -130,7 +128,7 @@ pub fn reply_text(
                 push_value(&mut out, alloc, value, options)?;
                 push_text(
                     &mut out,
-                    if ends_line(options, at_terminal) {
+                    if ends_line(options, value_end) {
                         "\n"
                     } else {
                         ""
@@ -148,25 +146,42 @@ fn json_string(alloc: Global, text: &str) -> Result<String, AllocError> {
     Json::String(String::from_str(alloc, text)?).to_string(alloc)
 }
 
+/// Appends a value as a member of a JSON object: `value_hex` if the form is hexadecimal or the value
+/// is no text, `number` if the form is decimal and the value has 8 bytes, else `value`.
+fn push_json_value(
+    text: &mut String,
+    alloc: Global,
+    bytes: &[u8],
+    form: ValueForm,
+) -> Result<(), AllocError> {
+    if form == ValueForm::Decimal {
+        if let Some(number) = number_of(bytes) {
+            return write!(text, "\"number\":{number}");
+        }
+    }
+    match str::from_utf8(bytes) {
+        Ok(value) if form != ValueForm::Hexadecimal => {
+            let value = json_string(alloc, value)?;
+            write!(text, "\"value\":{value}")
+        }
+        _ => {
+            let digits = hexadecimal(alloc, bytes)?;
+            write!(text, "\"value_hex\":\"{digits}\"")
+        }
+    }
+}
+
 /// Appends the version and the value of an object as members of a JSON object.
 fn push_json_read(
     text: &mut String,
     alloc: Global,
     version: Version,
     value: &Value,
+    form: ValueForm,
 ) -> Result<(), AllocError> {
     let version = version.get();
-    let bytes = value.as_slice();
-    match str::from_utf8(bytes) {
-        Ok(value) => {
-            let value = json_string(alloc, value)?;
-            write!(text, "\"version\":{version},\"value\":{value}")
-        }
-        Err(_) => {
-            let digits = hexadecimal(alloc, bytes)?;
-            write!(text, "\"version\":{version},\"value_hex\":\"{digits}\"")
-        }
-    }
+    write!(text, "\"version\":{version},")?;
+    push_json_value(text, alloc, value.as_slice(), form)
 }
 
 /// Appends the objects that a transaction read as a JSON array.
@@ -174,18 +189,24 @@ fn push_json_reads(
     text: &mut String,
     alloc: Global,
     reads: &[(Version, Value)],
+    form: ValueForm,
 ) -> Result<(), AllocError> {
     text.push_str("\"reply\":\"done\",\"reads\":[")?;
     for (index, read) in reads.iter().enumerate() {
         text.push_str(if index > 0 { ",{" } else { "{" })?;
-        push_json_read(text, alloc, read.0, &read.1)?;
+        push_json_read(text, alloc, read.0, &read.1, form)?;
         text.push_str("}")?;
     }
     text.push_str("]")
 }
 
 /// Appends the reply to an update as members of a JSON object.
-fn push_json_update(text: &mut String, alloc: Global, reply: &Reply) -> Result<(), AllocError> {
+fn push_json_update(
+    text: &mut String,
+    alloc: Global,
+    reply: &Reply,
+    form: ValueForm,
+) -> Result<(), AllocError> {
     match reply {
         Reply::Written(version) => {
             let version = version.get();
@@ -195,7 +216,7 @@ fn push_json_update(text: &mut String, alloc: Global, reply: &Reply) -> Result<(
             let version = version.get();
             write!(text, "\"reply\":\"mismatch\",\"version\":{version}")
         }
-        Reply::Done(reads) => push_json_reads(text, alloc, reads.as_slice()),
+        Reply::Done(reads) => push_json_reads(text, alloc, reads.as_slice(), form),
         Reply::CompareFailed(index) => {
             let index = *index;
             write!(text, "\"reply\":\"comparefailed\",\"index\":{index}")
@@ -214,17 +235,21 @@ fn push_json_update(text: &mut String, alloc: Global, reply: &Reply) -> Result<(
 
 /// Returns a reply as the members of a JSON object, without its braces. Fails only when out of
 /// memory.
-pub fn reply_json(alloc: Global, reply: &ClientReply) -> Result<String, AllocError> {
+pub fn reply_json(
+    alloc: Global,
+    reply: &ClientReply,
+    form: ValueForm,
+) -> Result<String, AllocError> {
     let mut text = String::new(alloc);
     match reply {
-        ClientReply::Update { pass: _, reply } => push_json_update(&mut text, alloc, reply)?,
+        ClientReply::Update { pass: _, reply } => push_json_update(&mut text, alloc, reply, form)?,
         ClientReply::Read {
             pass: _,
             version,
             value,
         } => {
             text.push_str("\"reply\":\"read\",")?;
-            push_json_read(&mut text, alloc, *version, value)?;
+            push_json_read(&mut text, alloc, *version, value, form)?;
         }
         _ => {}
     }
@@ -278,35 +303,103 @@ pub fn chains_json(alloc: Global, chains: &[Chain]) -> Result<String, AllocError
     Ok(text)
 }
 
-/// Returns the times as text: a line for the update and one for each member, in milliseconds. Fails
-/// only when out of memory.
-pub fn times_text(alloc: Global, times: &Times) -> Result<String, AllocError> {
+/// Returns the line of an update that took this long, in milliseconds. Fails only when out of memory.
+pub fn update_line(alloc: Global, microseconds: u64) -> Result<String, AllocError> {
+    let (whole, parts) = (microseconds / 1000, microseconds % 1000 / 10);
+    format!(in alloc; "update {whole}.{parts:02} ms\n")
+}
+
+/// Returns the line of a member: the time of a read in milliseconds, or why it gave none. Fails only
+/// when out of memory.
+pub fn member_line(alloc: Global, node: NodeId, seen: &Seen) -> Result<String, AllocError> {
+    let node = node.get();
+    match seen {
+        Seen::Read(microseconds) => {
+            let microseconds = *microseconds;
+            let (whole, parts) = (microseconds / 1000, microseconds % 1000 / 10);
+            format!(in alloc; "node {node} {whole}.{parts:02} ms\n")
+        }
+        _ => {
+            let reason = reason_of(alloc, seen)?;
+            format!(in alloc; "node {node} {reason}\n")
+        }
+    }
+}
+
+/// Returns why a member gave no time, in words; an empty text if it gave one.
+fn reason_of(alloc: Global, seen: &Seen) -> Result<String, AllocError> {
+    match seen {
+        Seen::Read(_) => Ok(String::new(alloc)),
+        Seen::Stopped => String::from_str(alloc, "stopped"),
+        Seen::Silent => {
+            let seconds = READ_SECONDS;
+            format!(in alloc; "no reply within {seconds} s")
+        }
+        Seen::Refused(refusal) => {
+            let refusal = *refusal;
+            let number = refusal.number();
+            format!(in alloc; "refused {number}: {refusal}")
+        }
+    }
+}
+
+/// Appends the name of a member of a JSON object that is a number, with a comma if it is not the
+/// first.
+fn push_json_node(text: &mut String, begin: usize, node: NodeId) -> Result<(), AllocError> {
+    text.push_str(if text.len() > begin { "," } else { "" })?;
+    let node = node.get();
+    write!(text, "\"{node}\":")
+}
+
+/// Appends the times of reads as members of a JSON object.
+fn push_json_times(text: &mut String, members: &[(NodeId, Seen)]) -> Result<(), AllocError> {
+    let begin = text.len();
+    for (node, seen) in members {
+        if let Seen::Read(microseconds) = *seen {
+            push_json_node(text, begin, *node)?;
+            let (whole, parts) = (microseconds / 1_000_000, microseconds % 1_000_000);
+            write!(text, "{whole}.{parts:06}")?;
+        }
+    }
+    Ok(())
+}
+
+/// Returns the reasons of members that gave no time, as members of a JSON object.
+fn json_reasons(alloc: Global, members: &[(NodeId, Seen)]) -> Result<String, AllocError> {
     let mut text = String::new(alloc);
-    let (whole, parts) = (times.update / 1000, times.update % 1000 / 10);
-    write!(text, "update {whole}.{parts:02} ms\n")?;
-    for (node, microseconds) in &times.reads {
-        let (node, microseconds) = (node.get(), *microseconds);
-        let (whole, parts) = (microseconds / 1000, microseconds % 1000 / 10);
-        write!(text, "node {node} {whole}.{parts:02} ms\n")?;
+    for (node, seen) in members {
+        if matches!(seen, Seen::Read(_)) {
+            continue;
+        }
+        push_json_node(&mut text, 0, *node)?;
+        let reason = json_string(alloc, reason_of(alloc, seen)?.as_str())?;
+        text.push_str(reason.as_str())?;
     }
     Ok(text)
 }
 
-/// Returns the times as the members of a JSON object, in seconds and without its braces. Fails only
-/// when out of memory.
-pub fn times_json(alloc: Global, times: &Times) -> Result<String, AllocError> {
-    let mut text = String::new(alloc);
-    let (whole, parts) = (times.update / 1_000_000, times.update % 1_000_000);
-    write!(
-        text,
-        "\"update_seconds\":{whole}.{parts:06},\"read_seconds\":{{"
-    )?;
-    for (index, (node, microseconds)) in times.reads.iter().enumerate() {
-        text.push_str(if index > 0 { "," } else { "" })?;
-        let (node, microseconds) = (node.get(), *microseconds);
-        let (whole, parts) = (microseconds / 1_000_000, microseconds % 1_000_000);
-        write!(text, "\"{node}\":{whole}.{parts:06}")?;
+/// Returns what was seen of a chain as the members of a JSON object, without its braces: the times in
+/// seconds, and why members gave none. Fails only when out of memory.
+pub fn health_json(
+    alloc: Global,
+    update: Option<u64>,
+    members: &[(NodeId, Seen)],
+) -> Result<String, AllocError> {
+    let mut text = String::from_str(alloc, "\"update_seconds\":")?;
+    match update {
+        Some(microseconds) => {
+            let (whole, parts) = (microseconds / 1_000_000, microseconds % 1_000_000);
+            write!(text, "{whole}.{parts:06}")?;
+        }
+        None => text.push_str("null")?,
     }
+    text.push_str(",\"read_seconds\":{")?;
+    push_json_times(&mut text, members)?;
     text.push_str("}")?;
+    let reasons = json_reasons(alloc, members)?;
+    if !reasons.is_empty() {
+        let reasons = reasons.as_str();
+        write!(text, ",\"failed\":{{{reasons}}}")?;
+    }
     Ok(text)
 }

@@ -4,12 +4,13 @@ use crate::asking::{Target, Unanswered, answered, known_chains};
 use crate::calling::message_in;
 use crate::chains::id_of_name;
 use crate::deadline::Deadline;
-use crate::fault::{Fault, NO_CONNECTION, REFUSED};
-use crate::health::times;
+use crate::fault::Fault;
+use crate::health::{OutputForm, examine};
 use crate::identity::{client_id, nanoseconds};
 use crate::link::{Failure, Link};
-use crate::output::{chains_json, chains_text, reply_json, reply_text, times_json, times_text};
+use crate::output::{ValueEnd, chains_json, chains_text, reply_json, reply_text};
 use crate::quoting::push_word;
+use crate::reporting::{print_json, report_failure, tell, write_out};
 use craq_cli::{
     BAD_INPUT, BadWord, Request, UsageError, ValueForm, Verb, VerbContext, VerbLine, raw_bytes,
     verb_of,
@@ -47,8 +48,8 @@ pub struct Setting {
     pub node: Option<NodeId>,
     /// The largest pass that was received so far.
     pub pass: Pass,
-    /// True if standard output is a terminal.
-    pub at_terminal: bool,
+    /// The end of a value that is printed as it is.
+    pub value_end: ValueEnd,
     /// True if a value `-` is read from standard input.
     pub reads_input: bool,
 }
@@ -96,26 +97,10 @@ enum Kind {
     Health,
 }
 
-/// Prints a line on standard error.
-fn tell<R: Eprint>(rt: &R, text: &str) -> Result<(), Fault> {
-    match eprintln!(rt; "craq: {text}") {
-        Ok(()) => Ok(()),
-        Err(error) => Err(Fault::CannotPrint(error)),
-    }
-}
-
-/// Writes bytes to standard output.
-fn write_out<R: Print>(rt: &R, bytes: &[u8]) -> Result<(), Fault> {
-    match rt.write_all(bytes) {
-        Ok(()) => Ok(()),
-        Err(error) => Err(Fault::CannotPrint(error)),
-    }
-}
-
 /// Returns the place of the word that is a value: `None` for verbs without one.
 fn value_place(verb: &str) -> Option<usize> {
     match verb {
-        "set" => Some(2),
+        "set" | "append" | "prepend" => Some(2),
         "cas" => Some(3),
         _ => None,
     }
@@ -188,40 +173,6 @@ fn report_limit<R: Eprint>(rt: &R, refusal: Refusal) -> Result<u8, Fault> {
     }
 }
 
-/// Prints a refusal with its number and in words. Returns the status.
-fn report_refused<R: AllocGlobal + Eprint>(rt: &R, refusal: Refusal) -> Result<u8, Fault> {
-    let (number, detail) = (refusal.number(), refusal.detail());
-    let detail = if detail > 0 {
-        format!(in rt.alloc(); " {detail}")?
-    } else {
-        String::new(rt.alloc())
-    };
-    match eprintln!(rt; "craq: refused {number}{detail}: {refusal}") {
-        Ok(()) => Ok(REFUSED),
-        Err(error) => Err(Fault::CannotPrint(error)),
-    }
-}
-
-/// Prints why a request was not answered. Returns the status.
-fn report_failure<R: AllocGlobal + Eprint>(
-    rt: &R,
-    link: &Link<'_>,
-    failure: Failure,
-) -> Result<u8, Fault> {
-    let address = link.address();
-    let text = match failure {
-        Failure::Memory => return Err(Fault::Memory),
-        Failure::NoClock => return Err(Fault::System),
-        Failure::Refused(refusal) => return report_refused(rt, refusal),
-        Failure::Unsent => format!(in rt.alloc(); "no server answers at {address}")?,
-        Failure::Broken => format!(in rt.alloc(); "the connection to {address} broke")?,
-        Failure::Late => format!(in rt.alloc(); "no reply came from {address} in time")?,
-        Failure::NoReply => format!(in rt.alloc(); "what came from {address} is no reply")?,
-    };
-    tell(rt, text.as_str())?;
-    Ok(NO_CONNECTION)
-}
-
 /// Returns the command that asks an update again under its number.
 fn again_command(
     alloc: Global,
@@ -241,8 +192,10 @@ fn again_command(
         let node = node.get();
         write!(text, " --node {node}")?;
     }
-    if words.line.options.form == ValueForm::Hexadecimal {
-        text.push_str(" --hex")?;
+    match words.line.options.form {
+        ValueForm::Bytes => {}
+        ValueForm::Hexadecimal => text.push_str(" --hex")?,
+        ValueForm::Decimal => text.push_str(" --decimal")?,
     }
     text.push_str(" --")?;
     for word in &words.line.words {
@@ -363,13 +316,6 @@ fn status_of(reply: &ClientReply) -> u8 {
     }
 }
 
-/// Prints the members of a JSON object with the pass.
-fn print_json<R: AllocGlobal + Print>(rt: &R, members: &str, pass: Pass) -> Result<(), Fault> {
-    let pass = pass.stamp().get();
-    let text = format!(in rt.alloc(); "{{{members},\"pass\":{pass}}}\n")?;
-    write_out(rt, text.as_str().as_bytes())
-}
-
 /// Prints a reply. Returns the status.
 fn print_reply<R: AllocGlobal + Print + Eprint>(
     rt: &R,
@@ -379,11 +325,11 @@ fn print_reply<R: AllocGlobal + Print + Eprint>(
 ) -> Result<u8, Fault> {
     let status = status_of(reply);
     if line.options.is_json {
-        let members = reply_json(rt.alloc(), reply)?;
+        let members = reply_json(rt.alloc(), reply, line.options.form)?;
         print_json(rt, members.as_str(), setting.pass)?;
         return Ok(status);
     }
-    let text = reply_text(rt.alloc(), reply, &line.options, setting.at_terminal)?;
+    let text = reply_text(rt.alloc(), reply, &line.options, setting.value_end)?;
     write_out(rt, text.as_slice())?;
     if line.options.prints_pass {
         let pass = setting.pass.stamp().get();
@@ -518,6 +464,17 @@ where
     Ok(Next::Over(show(rt, setting, words.line, reply)?))
 }
 
+/// Returns the client's id: the one that the options name, else the default.
+fn client_of<R>(rt: &R, words: Words<'_>) -> Result<u64, Fault>
+where
+    R: AllocGlobal + Env + Files + Clock + RandomSource,
+{
+    match words.line.options.client {
+        Some(client) => Ok(client),
+        None => client_id(rt),
+    }
+}
+
 /// Asks an update, and prints the reply. A fresh number that is too small was never used for it,
 /// and is exchanged for a larger one. Returns the status.
 fn update<R>(
@@ -531,10 +488,7 @@ where
     R: AllocGlobal + Env + Files + RandomSource + Print + Eprint + Clock + Wait,
     R: Net<Listener = TcpListener, Stream = TcpStream>,
 {
-    let client = match words.line.options.client {
-        Some(client) => client,
-        None => client_id(rt)?,
-    };
+    let client = client_of(rt, words)?;
     let mut above = 0u64;
     for _ in 0..MOST_NUMBERS {
         let number = match words.line.options.number {
@@ -574,7 +528,7 @@ where
     Ok(0)
 }
 
-/// Prints the times of a chain. Returns the status.
+/// Examines a chain. Returns the status.
 fn health<R>(
     rt: &R,
     link: &mut Link<'_>,
@@ -586,25 +540,16 @@ where
     R: AllocGlobal + Env + Files + RandomSource + Print + Eprint + Clock + Wait,
     R: Net<Listener = TcpListener, Stream = TcpStream>,
 {
-    let client = match words.line.options.client {
-        Some(client) => client,
-        None => client_id(rt)?,
-    };
+    let client = client_of(rt, words)?;
     let mut target = target_of(rt, setting, words, chain)?;
-    let measured = times(rt, link, &mut target, client);
-    setting.pass = target.pass;
-    let times = match measured {
-        Ok(times) => times,
-        Err(failure) => return report_failure(rt, link, failure),
-    };
-    if words.line.options.is_json {
-        let members = times_json(rt.alloc(), &times)?;
-        print_json(rt, members.as_str(), setting.pass)?;
+    let form = if words.line.options.is_json {
+        OutputForm::Json
     } else {
-        let text = times_text(rt.alloc(), &times)?;
-        write_out(rt, text.as_str().as_bytes())?;
-    }
-    Ok(0)
+        OutputForm::Text
+    };
+    let examined = examine(rt, link, &mut target, client, form);
+    setting.pass = target.pass;
+    examined
 }
 
 /// Returns the chain that the options name, by number or by name.
@@ -668,8 +613,9 @@ where
 }
 
 /// Runs a verb for people, which may take 20 seconds from the moment that its words are read, and
-/// raises the pass of the setting to those of the replies. Returns the status: 0, or 2 for wrong words, 3 after a refusal, 4 if no server answered, 5 if nothing was
-/// written, 6 if the object was never written. Nothing is sent before the words are checked.
+/// raises the pass of the setting to those of the replies. Nothing is sent before the words are
+/// checked. Returns the status: 0, or 2 for wrong words, 3 after a refusal, 4 if no server answered, 5
+/// if nothing was written, 6 if the object was never written.
 pub fn run_verb<R>(
     rt: &R,
     link: &mut Link<'_>,

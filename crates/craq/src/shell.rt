@@ -3,6 +3,7 @@
 use crate::calling::{Asker, Shown, explain, shown_over};
 use crate::fault::{Fault, IdSource, REFUSED};
 use crate::link::Link;
+use crate::output::ValueEnd;
 use crate::people::{Setting, run_verb};
 use crate::session::Session;
 use craq_cli::{
@@ -24,6 +25,7 @@ use std::time::Clock;
 const HELP: &str = "set KEY VALUE                              give the object a value
 get KEY                                    its value; with --json, --hex, --decimal
 cas KEY VERSION VALUE                      write, if the object has the version
+append, prepend KEY VALUE                  join the value to the end or the front
 add, sub KEY [BY]                          count the number in the object's 8 bytes up or down
 txn ITEM ..                                a transaction: c:KEY:VERSION, r:KEY, w:KEY:VALUE
 members, health                            the chains; the times of one, --chain NAME
@@ -56,8 +58,15 @@ struct Open<'a> {
     session: Session<'a>,
     /// The connection.
     link: Link<'a>,
-    /// True if standard output is a terminal.
-    at_terminal: bool,
+}
+
+/// The way in which lines are entered.
+#[derive(Clone, Copy, Debug, PartialEq, Eq)]
+enum Entry {
+    /// At a terminal, behind a prompt.
+    Prompted,
+    /// From a file or a pipe.
+    Piped,
 }
 
 /// A line of the prompt, read.
@@ -73,6 +82,20 @@ enum Said {
     Verb,
 }
 
+/// Returns true for a number of 64 bits in decimal digits.
+fn is_number(word: &str) -> bool {
+    number_up_to(u64::MAX, word.as_bytes()).is_ok()
+}
+
+/// Returns true for a command whose name a verb has too: `append` or `prepend`, with CLIENT NUMBER
+/// OBJECT VALUE behind it.
+fn is_shared_command(words: &[&str]) -> bool {
+    let ["append" | "prepend", client, number, _, _] = *words else {
+        return false;
+    };
+    is_number(client) && is_number(number)
+}
+
 /// Reads a line by its words.
 fn meaning_of(words: &[&str]) -> Said {
     let Some(first) = words.first() else {
@@ -82,7 +105,7 @@ fn meaning_of(words: &[&str]) -> Said {
     if word == b"node".as_slice() {
         return Said::Node;
     }
-    if is_verb(first) {
+    if is_verb(first) && !is_shared_command(words) {
         return Said::Verb;
     }
     if words.len() > 1 {
@@ -148,7 +171,7 @@ where
     let mut setting = Setting {
         node: line.node,
         pass: open.session.asker().pass.join(line.pass),
-        at_terminal: open.at_terminal,
+        value_end: ValueEnd::LineFeed,
         reads_input: false,
     };
     let ran = run_verb(rt, &mut open.link, &mut setting, verb);
@@ -359,6 +382,15 @@ fn greet<R: Print>(rt: &R, asker: &Asker<'_>) -> Result<(), Fault> {
     }
 }
 
+/// Returns the way in which lines are entered.
+fn entry_at(terminals: Terminals) -> Entry {
+    if terminals.input {
+        Entry::Prompted
+    } else {
+        Entry::Piped
+    }
+}
+
 /// Takes lines until one ends the prompt or there are no more. All requests go over one connection,
 /// which is made again after a fault. The prompt itself, and what stands around it, is printed for a
 /// terminal alone.
@@ -378,26 +410,25 @@ where
     let mut open = Open {
         session: Session::new(rt.alloc(), asker),
         link,
-        at_terminal: terminals.output,
     };
-    let taken = take_lines(rt, &mut open, terminals.input);
+    let taken = take_lines(rt, &mut open, entry_at(terminals));
     drop(open);
     taken?;
     Ok(0)
 }
 
 /// Takes lines until one ends the prompt or there are no more.
-fn take_lines<R>(rt: &R, open: &mut Open<'_>, at_terminal: bool) -> Result<(), Fault>
+fn take_lines<R>(rt: &R, open: &mut Open<'_>, entry: Entry) -> Result<(), Fault>
 where
     R: AllocGlobal + Env + Files + RandomSource + Input + Print + Eprint + Clock + Wait,
     R: Net<Listener = TcpListener, Stream = TcpStream>,
 {
     for _ in 0..u64::MAX {
-        if at_terminal {
+        if entry == Entry::Prompted {
             print_text(rt, "craq> ")?;
         }
         let Some(entered) = next_line(rt)? else {
-            return print_text(rt, if at_terminal { "\n" } else { "" });
+            return print_text(rt, if entry == Entry::Prompted { "\n" } else { "" });
         };
         let run = run_entered(rt, open, entered.as_str());
         drop(entered);

@@ -1,3 +1,4 @@
+pub mod Address
 pub mod Commands
 pub mod Control
 pub mod ControlNode

@@ -1,5 +1,6 @@
 -- Defines the values and the items of transactions on the command line of people's verbs.
-use Rattle.std.specs.Prelude.{ℕ, List, ◌++◌, codes, Option, Some, None, if◌then◌else◌}
+use Rattle.std.specs.Prelude.{ℕ, List, ◌++◌, codes, option_map, Option, Some, None, if◌then◌else◌}
+use Rattle.std.specs.Int.{to_be_bytes, w64}
 use Rattle.craq_names.specs.Limits.{greatest}
 use Rattle.craq_names.specs.Maps.{same_bytes}
 use Rattle.craq_script.specs.declared.line.MiniItem.{MiniItem}
@@ -9,10 +10,11 @@ use Rattle.craq_script.specs.Words.{cut_at, number_up_to, script_value}
 use Rattle.craq_cli.specs.declared.task.ValueForm.{ValueForm}
 use Rattle.craq_cli.specs.declared.task.ValueForm.TheVariants as forms
 
--- the word's bytes, or pairs of hexadecimal digits in lower case
+-- the word's bytes, pairs of hexadecimal digits in lower case, or the 8 bytes of a number in decimal digits
 unfoldable pub value_word : ValueForm → List ℕ → Option (List ℕ)
 value_word forms.Bytes word = Some word
 value_word forms.Hexadecimal word = script_value (codes "0x" ++ word)
+value_word forms.Decimal word = option_map (to_be_bytes w64) (number_up_to greatest word)
 
 -- `KEY:VERSION`, after `c:`
 unfoldable pub compare_item : ℕ → List ℕ → Option MiniItem

@@ -27,11 +27,11 @@ abbrev pub key_word : ℕ → List ℕ → Option ScriptObject
 key_word chain word = Some (record { chain = chain; key = word })
 
 -- `KEY VALUE`
-unfoldable pub set_of : VerbContext → List (List ℕ) → Result ScriptCommand BadWord
-set_of context words = do
+unfoldable pub object_and_value : VerbContext → List (List ℕ) → Result (ScriptObject × List ℕ) BadWord
+object_and_value context words = do
   object ← word_at expected.Key (key_word context.chain) words 1
   value ← word_at expected.VerbValue (value_word context.form) words 2
-  at_end (changes.Put object value) words 3
+  at_end (object, value) words 3
 
 -- `KEY VERSION VALUE`
 unfoldable pub compare_of : VerbContext → List (List ℕ) → Result ScriptCommand BadWord
@@ -62,7 +62,9 @@ items_from context place (word ∷ words) = do
 
 -- the change of an update
 unfoldable pub change_of : VerbContext → VerbUpdate → List (List ℕ) → Result ScriptCommand BadWord
-change_of context updates.Set words = set_of context words
+change_of context updates.Set words = object_and_value context words >>= λ x. Ok (changes.Put x.0 x.1)
+change_of context updates.Append words = object_and_value context words >>= λ x. Ok (changes.Append x.0 x.1)
+change_of context updates.Prepend words = object_and_value context words >>= λ x. Ok (changes.Prepend x.0 x.1)
 change_of context updates.CompareAndSet words = compare_of context words
 change_of context updates.Add words = count_of context words >>= λ x. Ok (changes.Increment x.0 x.1)
 change_of context updates.Subtract words = count_of context words >>= λ x. Ok (changes.Decrement x.0 x.1)
@@ -86,12 +88,31 @@ verb_name word =
     if same_bytes word (codes "set") then Some (names.Update updates.Set)
     else (if same_bytes word (codes "get") then Some names.Get
     else (if same_bytes word (codes "cas") then Some (names.Update updates.CompareAndSet)
+    else (if same_bytes word (codes "append") then Some (names.Update updates.Append)
+    else (if same_bytes word (codes "prepend") then Some (names.Update updates.Prepend)
     else (if same_bytes word (codes "add") then Some (names.Update updates.Add)
     else (if same_bytes word (codes "sub") then Some (names.Update updates.Subtract)
     else (if same_bytes word (codes "txn") then Some (names.Update updates.Transaction)
     else (if same_bytes word (codes "members") then Some names.Members
     else (if same_bytes word (codes "health") then Some names.Health
-    else None)))))))
+    else None)))))))))
+
+-- the options that have no meaning for a verb
+abbrev pub meaningless_of : VerbName → List (List ℕ)
+meaningless_of (names.Update updates.Add) = codes "mode" ∷ codes "hex" ∷ codes "decimal" ∷ []
+meaningless_of (names.Update updates.Subtract) = codes "mode" ∷ codes "hex" ∷ codes "decimal" ∷ []
+meaningless_of (names.Update _) = codes "mode" ∷ []
+meaningless_of names.Get = codes "client" ∷ codes "number" ∷ []
+meaningless_of names.Members = codes "node" ∷ codes "chain" ∷ codes "mode" ∷ codes "client" ∷ codes "number" ∷ codes "hex" ∷ codes "decimal" ∷ codes "print-pass" ∷ []
+meaningless_of names.Health = codes "node" ∷ codes "mode" ∷ codes "number" ∷ codes "hex" ∷ codes "decimal" ∷ codes "print-pass" ∷ []
+
+-- the options that have no meaning for the verb of this name
+abbrev pub meaningless_by : Option VerbName → List (List ℕ)
+meaningless_by None = []
+meaningless_by (Some name) = meaningless_of name
+
+abbrev pub meaningless_options : List ℕ → List (List ℕ)
+meaningless_options word = meaningless_by (verb_name word)
 
 -- true if a word is the name of a verb
 abbrev pub is_verb_name : List ℕ → Bool

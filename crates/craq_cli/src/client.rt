@@ -1,10 +1,12 @@
 //! The command line of `craq`: its options, its help, and what its command is to do; called by the
 //! main of `craq`.
+use crate::address::{ADDRESS_FORM, is_address};
 use crate::commands::{is_command, task_of};
 use crate::numbers::number_between;
 use crate::verb_options::{
     BadOption, CheckedOption, FLAGS, LOAD, VALUED, load_in, mode_in, number_in,
 };
+use crate::verbs::meaningless_options;
 use crate::{Task, UsageError, VERSION, ValueForm, VerbLine, VerbOptions, is_verb};
 use clap::error::ErrorKind;
 use clap::{Arg, ArgAction, ArgMatches, Command, Error};
@@ -63,12 +65,13 @@ const HELP: &str = "VERB and its words:
   set KEY VALUE              write the value; VALUE - is read from standard input
   get KEY                    print the value as it is
   cas KEY VERSION VALUE      write the value if the object has this version; 0 is never written
+  append, prepend KEY VALUE  put the value behind, or before, the present one
   add, sub KEY [BY]          add BY, or 1, to the number in the object's 8 bytes, or subtract it
   txn ITEM ..                compare, read and write at one moment: an ITEM is c:KEY:VERSION, r:KEY
                              or w:KEY:VALUE, with a KEY without a colon
   members                    print each chain with its members, head first
-  health                     time an update through the whole chain, which writes nothing, and a
-                             strong read at each member
+  health                     time a strong read at each member, and an update through the whole
+                             chain, which writes nothing
 KEY is any 1 to 128 bytes, VALUE any 0 to 4096. Options stand before or after these words; -- ends
 them. An update goes to the head, and a get to any member, unless --node names one. After a lost
 connection or a passing refusal the request is retried, an update under its number, so that it is
@@ -86,10 +89,10 @@ COMMAND and its words:
 A command needs --connect and --node, and all words after it are its own. OBJECT is KEY of letters,
 digits, _ and -, on chain 0, or CHAIN/KEY. NUMBER counts the updates of a client on a chain from 1:
 asked again under one of its 8 largest numbers, an update is not made again but answered again. A
-VALUE is text, or 0x and hexadecimal digits. Updates are asked at the first node of a chain, its
-head. After the answer comes a line `pass P` with the pass to show from now on. A strong read that
-shows the pass of an earlier strong answer (the reply to an update, or a strong read) is not older
-than it.
+VALUE is printable ASCII without blanks, or 0x and hexadecimal digits. Updates are asked at the
+first node of a chain, its head. After the answer comes a line `pass P` with the pass to show from
+now on. A strong read that shows the pass of an earlier strong answer (the reply to an update, or a
+strong read) is not older than it. With --connect and --node, append and prepend are commands.
 
 TOOL and its words:
   shell                      a prompt that takes verbs and commands, and `help`
@@ -243,7 +246,8 @@ fn command_with_options<'a>(alloc: Global) -> Result<Command<'a>, AllocError> {
     command.arg(pass.default_value("0"))
 }
 
-/// Makes the command `craq --connect ADDRESS --node N [--pass P] [COMMAND ..]`.
+/// Makes the command `craq --connect ADDRESS --node N [--pass P] [COMMAND ..]`. Without any word its
+/// error is the help.
 fn whole_command<'a>(alloc: Global) -> Result<Command<'a>, AllocError> {
     let command = command_with_options(alloc)?;
     let words = Arg::new(alloc, "COMMAND")
@@ -251,7 +255,7 @@ fn whole_command<'a>(alloc: Global) -> Result<Command<'a>, AllocError> {
         .trailing_var_arg(true)
         .allow_hyphen_values(true)
         .help("What is asked, and its words");
-    command.arg(words)
+    command.arg_required_else_help(true).arg(words)
 }
 
 /// Returns the node and the pass of a command line; `None` where a number is outside the grammar.
@@ -287,9 +291,37 @@ fn task_in<'a>(
     }
 }
 
+/// The options that neither commands nor a prompt take: those of verbs without `--connect`, `--node`
+/// and `--pass`.
+const VERB_OPTIONS: [&str; 8] = [
+    "chain",
+    "mode",
+    "client",
+    "number",
+    "hex",
+    "decimal",
+    "json",
+    "print-pass",
+];
+
+/// Returns true if an option was given, with a value or without one.
+fn is_given(matches: &ArgMatches<'_>, option: &str) -> bool {
+    if FLAGS.iter().any(|flag| flag.0 == option) {
+        matches.get_flag(option)
+    } else {
+        matches.contains_id(option)
+    }
+}
+
+/// Returns true if an option of verbs was given that commands do not take.
+fn has_verb_option(matches: &ArgMatches<'_>) -> bool {
+    VERB_OPTIONS.iter().any(|option| is_given(matches, option))
+}
+
 /// Returns the form of a command line by its first word that is no option. Without one it is a
-/// prompt, which needs `--connect`. An unknown word is taken for a verb unless the line names a
-/// server and a node, as that of a command.
+/// prompt, which needs `--connect`. The names that a command and a verb share are the command's if
+/// the line names a server and a node. An unknown word is taken for a verb unless the line has the
+/// options of a command.
 fn form_of(matches: &ArgMatches<'_>) -> LineForm {
     let first = match matches.get_strs("COMMAND") {
         Some(words) => words.first().copied(),
@@ -298,22 +330,84 @@ fn form_of(matches: &ArgMatches<'_>) -> LineForm {
     let has_place = matches.contains_id("connect") && matches.contains_id("node");
     match first {
         Some("shell" | "watch" | "bench") => LineForm::Tool,
+        Some(word) if has_place && is_command(word) => LineForm::Command,
         Some(word) if is_verb(word) => LineForm::Verb,
-        Some(word) if !has_place && !is_command(word) => LineForm::Verb,
+        Some(word) if is_command(word) => LineForm::Command,
+        Some(_) if !has_place || has_verb_option(matches) => LineForm::Verb,
         None if matches.contains_id("connect") => LineForm::Tool,
         _ => LineForm::Command,
     }
 }
 
-/// Returns the form of these words.
+/// Returns the form of these words. `Words` if the line of a command has options of verbs.
 fn form_of_words(alloc: Global, words: &[&str]) -> Result<LineForm, CommandFault> {
     let mut command = first_command(alloc)?;
     let found = command.try_get_matches_from_mut(words);
     drop(command);
     let matches = found?;
     let form = form_of(&matches);
+    let is_mixed = form == LineForm::Command && has_verb_option(&matches);
     drop(matches);
+    if is_mixed {
+        let mut command = whole_command(alloc)?;
+        return Err(wrong_words(&mut command, "options of verbs do not go with commands")?);
+    }
     Ok(form)
+}
+
+/// Returns the first option that was given and has no meaning for the verb, if there is one.
+fn meaningless<'a>(matches: &ArgMatches<'_>, verb: &str) -> Option<&'a str> {
+    for option in meaningless_options(verb) {
+        if is_given(matches, option) {
+            return Some(*option);
+        }
+    }
+    None
+}
+
+/// Fails with `Words` if the options of a verb's line do not go together, or have no meaning for its
+/// verb.
+fn check_options(
+    alloc: Global,
+    command: &mut Command<'_>,
+    matches: &ArgMatches<'_>,
+) -> Result<(), CommandFault> {
+    if matches.get_flag("hex") && matches.get_flag("decimal") {
+        return Err(wrong_words(command, "--hex and --decimal do not go together")?);
+    }
+    let Some([verb, ..]) = matches.get_strs("COMMAND") else {
+        return Ok(());
+    };
+    let Some(option) = meaningless(matches, verb) else {
+        return Ok(());
+    };
+    let reported = format!(in alloc; "--{option} has no meaning for {verb}")?;
+    Err(wrong_words(command, reported.as_str())?)
+}
+
+/// Fails with `Words` if an address of the line is not HOST:PORT.
+fn check_address(
+    command: &mut Command<'_>,
+    matches: &ArgMatches<'_>,
+    option: &str,
+) -> Result<(), CommandFault> {
+    match matches.get_str(option) {
+        Some(address) if !is_address(address.as_bytes())? => {
+            Err(wrong_words(command, ADDRESS_FORM)?)
+        }
+        _ => Ok(()),
+    }
+}
+
+/// Returns the form of values that the options name.
+fn form_in(matches: &ArgMatches<'_>) -> ValueForm {
+    if matches.get_flag("hex") {
+        ValueForm::Hexadecimal
+    } else if matches.get_flag("decimal") {
+        ValueForm::Decimal
+    } else {
+        ValueForm::Bytes
+    }
 }
 
 /// Returns the options of a verb for people.
@@ -321,18 +415,12 @@ fn verb_options<'a>(matches: &ArgMatches<'a>) -> Result<VerbOptions<'a>, BadOpti
     let mode = mode_in(matches)?;
     let client = number_in(matches, CheckedOption::Client)?;
     let number = number_in(matches, CheckedOption::Number)?;
-    let form = if matches.get_flag("hex") {
-        ValueForm::Hexadecimal
-    } else {
-        ValueForm::Bytes
-    };
     Ok(VerbOptions {
         chain: matches.get_str("chain"),
         mode,
         client,
         number,
-        form,
-        is_decimal: matches.get_flag("decimal"),
+        form: form_in(matches),
         is_json: matches.get_flag("json"),
         prints_pass: matches.get_flag("print-pass"),
     })
@@ -434,12 +522,14 @@ fn tool_line<'a>(
         Err(bad) => return Err(option_fault(command, bad)),
     };
     let task = task_in(alloc, command, NodeId::new(0), matches.get_strs("COMMAND"))?;
+    let task = task_with_options(command, matches, task)?;
+    check_address(command, matches, "metrics")?;
     Ok(CallLine {
         address: matches.get_str("connect"),
         node,
         pass,
         metrics: matches.get_str("metrics"),
-        task: task_with_options(command, matches, task)?,
+        task,
     })
 }
 
@@ -468,6 +558,27 @@ fn command_of<'a>(alloc: Global, form: LineForm) -> Result<Command<'a>, AllocErr
     }
 }
 
+/// Returns the line of this form that the options and words make.
+fn line_of<'a>(
+    alloc: Global,
+    form: LineForm,
+    command: &mut Command<'_>,
+    matches: &ArgMatches<'a>,
+) -> Result<CallLine<'a>, CommandFault> {
+    check_address(command, matches, "connect")?;
+    match form {
+        LineForm::Command => command_line(alloc, command, matches),
+        LineForm::Verb => {
+            check_options(alloc, command, matches)?;
+            match verb_line(alloc, matches) {
+                Ok(line) => Ok(line),
+                Err(bad) => Err(option_fault(command, bad)),
+            }
+        }
+        LineForm::Tool => tool_line(alloc, command, matches),
+    }
+}
+
 /// Returns the line of this form that these words match.
 fn matched<'a>(
     alloc: Global,
@@ -476,14 +587,7 @@ fn matched<'a>(
     words: &'a [&'a str],
 ) -> Result<CallLine<'a>, CommandFault> {
     let matches = command.try_get_matches_from_mut(words)?;
-    let line = match form {
-        LineForm::Command => command_line(alloc, command, &matches),
-        LineForm::Verb => match verb_line(alloc, &matches) {
-            Ok(line) => Ok(line),
-            Err(bad) => Err(option_fault(command, bad)),
-        },
-        LineForm::Tool => tool_line(alloc, command, &matches),
-    };
+    let line = line_of(alloc, form, command, &matches);
     drop(matches);
     line
 }
@@ -504,17 +608,18 @@ impl<'a> CallLine<'a> {
     /// Parses a command line with the words of a verb for people, the program's own name first. The
     /// words of the verb are not checked yet: `verb_of` parses them.
     ///
-    /// `Words` where clap finds a fault in the options, where the value of one is outside its
-    /// bounds, or where the words ask for help or the version; `Memory` when out of memory.
+    /// `Words` where clap finds a fault in the options, where the value of one is outside its bounds,
+    /// where one has no meaning for the verb, or where the words ask for help or the version;
+    /// `Memory` when out of memory.
     pub fn read_verb(alloc: Global, words: &'a [&'a str]) -> Result<Self, CommandFault> {
         read_as(alloc, LineForm::Verb, words)
     }
 
     /// Parses a command line, the program's own name first. Numbers are encoded as in scripts.
     ///
-    /// `Words` where clap finds a fault in the options, or where the words ask for help or the
-    /// version; `Command` where the words of the command fit no script line; `Memory` where a
-    /// growth was refused.
+    /// `Words` where clap finds a fault in the options, where they do not go with the words, or where
+    /// the words ask for help or the version; `Command` where the words of the command fit no script
+    /// line; `Memory` where a growth was refused.
     pub fn read(alloc: Global, words: &'a [&'a str]) -> Result<Self, CommandFault> {
         let form = form_of_words(alloc, words)?;
         read_as(alloc, form, words)

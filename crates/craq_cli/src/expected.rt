@@ -111,10 +111,11 @@ impl Expected {
                 "CHAIN/NODE, the name or the index of a chain and a number from 1 to 4294967295"
             }
             Expected::Force => "--force or the end of the line",
-            Expected::Verb => "a verb, as set, get, cas, add, sub, txn, members or health",
+            Expected::Verb =>
+                "a verb, as set, get, cas, append, prepend, add, sub, txn, members or health",
             Expected::Key => "KEY, of 1 to 128 bytes",
             Expected::VerbValue => {
-                "VALUE, a text, or with --hex pairs of hexadecimal digits in lower case"
+                "VALUE, a text; with --hex pairs of hexadecimal digits in lower case, with --decimal a number"
             }
             Expected::VerbItem => {
                 "ITEM, one of c:KEY:VERSION, r:KEY and w:KEY:VALUE, with a KEY without a colon"

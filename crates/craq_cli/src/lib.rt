@@ -3,6 +3,7 @@
 //! share modules. Code that runs in the programs.
 #![tactic(auto)]
 
+mod address;
 mod client;
 mod commands;
 mod control;
@@ -18,6 +19,7 @@ mod verb_options;
 mod verbs;
 mod words;
 
+pub use address::{ADDRESS_FORM, is_address};
 pub use client::{CallLine, CommandFault};
 pub use commands::request_of;
 pub use control::{ControlLine, control_line};

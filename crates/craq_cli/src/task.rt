@@ -59,6 +59,8 @@ pub enum ValueForm {
     Bytes,
     /// Pairs of hexadecimal digits in lower case.
     Hexadecimal,
+    /// A number of 64 bits in decimal digits, which stands for its 8 bytes.
+    Decimal,
 }
 
 /// The parts of a request that the words of a verb do not name.
@@ -100,8 +102,6 @@ pub struct VerbOptions<'a> {
     pub number: Option<u64>,
     /// The form of values that are given and printed.
     pub form: ValueForm,
-    /// True if a value of 8 bytes is printed as a number.
-    pub is_decimal: bool,
     /// True if the reply is printed as a JSON object.
     pub is_json: bool,
     /// True if the pass of the reply is printed too.

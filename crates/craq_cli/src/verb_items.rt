@@ -28,7 +28,8 @@ fn cut(text: &[u8]) -> Option<(&[u8], &[u8])>
     }
 }
 
-/// Parses a value: the word's bytes, or pairs of hexadecimal digits in lower case.
+/// Parses a value: the word's bytes, pairs of hexadecimal digits in lower case, or a number in decimal
+/// digits as its 8 bytes, the highest first.
 #[tactic(auto, unfolding(crate::specs::VerbItems::value_word))]
 pub(crate) fn value_word(
     alloc: Global,
@@ -43,6 +44,11 @@ pub(crate) fn value_word(
             let mut text = Vec::from_slice(alloc, b"0x".as_slice())?;
             text.extend_from_slice(word)?;
             script_value(alloc, text.as_slice())
+        }
+        ValueForm::Decimal => {
+            let number = number_up_to(u64::MAX, word)?;
+            let bytes = number.to_be_bytes();
+            Ok(Items::of(Vec::from_slice(alloc, &bytes)?))
         }
     }
 }

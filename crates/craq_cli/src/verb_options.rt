@@ -76,7 +76,10 @@ pub(crate) const VALUED: [(&str, &str, &str); 7] = [
 /// The options without a value: name, help.
 pub(crate) const FLAGS: [(&str, &str); 4] = [
     ("hex", "Take and print values as hexadecimal digits"),
-    ("decimal", "Print a value of 8 bytes as a number"),
+    (
+        "decimal",
+        "Take and print values of 8 bytes as numbers in decimal digits",
+    ),
     ("json", "Print a JSON object"),
     ("print-pass", "Print the pass of the reply too"),
 ];

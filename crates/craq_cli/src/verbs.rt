@@ -4,7 +4,7 @@ ghost use Rattle.craq_script.specs.Reading.{ParsesTo};
 ghost use Rattle.craq_cli.specs.Commands.{Reads, expect, word_at, at_end};
 ghost use Rattle.craq_cli.specs.Numbers.{number_between};
 ghost use Rattle.craq_cli.specs.VerbItems.{value_word, verb_item};
-ghost use Rattle.craq_cli.specs.Verbs.{key_word, by_of, set_of, compare_of, count_of, items_from, change_of, get_of, ask_of, verb_name, is_verb_name, verb_of};
+ghost use Rattle.craq_cli.specs.Verbs.{key_word, by_of, object_and_value, compare_of, count_of, items_from, change_of, get_of, ask_of, verb_name, is_verb_name, meaningless_of, meaningless_options, verb_of};
 
 use crate::numbers::number_between;
 use crate::verb_items::{value_word, verb_item};
@@ -19,6 +19,8 @@ use std::alloc::Global;
 enum VerbUpdate {
     Set,
     CompareAndSet,
+    Append,
+    Prepend,
     Add,
     Subtract,
     Transaction,
@@ -101,17 +103,17 @@ fn value_at(
 }
 
 /// Parses `KEY VALUE`.
-#[tactic(auto, unfolding(crate::specs::Verbs::set_of))]
-fn set_of(
+#[tactic(auto, unfolding(crate::specs::Verbs::object_and_value))]
+fn object_and_value(
     alloc: Global,
     context: &VerbContext,
     words: &[&[u8]],
-) -> Result<ScriptCommand, UsageError>
-    ensures { Reads (λ x. x) result (set_of context.now (map (λ w. w.now) words.now)) }
+) -> Result<(ScriptObject, Items<u8>), UsageError>
+    ensures { Reads (λ x. x) result (object_and_value context.now (map (λ w. w.now) words.now)) }
 {
     let object = key_at(alloc, context, words)?;
     let value = value_at(alloc, context, words, 2)?;
-    at_end(ScriptCommand::Put { object, value }, words, 3)
+    at_end((object, value), words, 3)
 }
 
 /// Parses `KEY VERSION VALUE`.
@@ -211,7 +213,18 @@ fn change_of(
     ensures { Reads (λ x. x) result (change_of context.now name (map (λ w. w.now) words.now)) }
 {
     match name {
-        VerbUpdate::Set => set_of(alloc, context, words),
+        VerbUpdate::Set => {
+            let (object, value) = object_and_value(alloc, context, words)?;
+            Ok(ScriptCommand::Put { object, value })
+        }
+        VerbUpdate::Append => {
+            let (object, value) = object_and_value(alloc, context, words)?;
+            Ok(ScriptCommand::Append { object, value })
+        }
+        VerbUpdate::Prepend => {
+            let (object, value) = object_and_value(alloc, context, words)?;
+            Ok(ScriptCommand::Prepend { object, value })
+        }
         VerbUpdate::CompareAndSet => compare_of(alloc, context, words),
         VerbUpdate::Add => {
             let (object, by) = count_of(alloc, context, words)?;
@@ -274,6 +287,12 @@ fn verb_name(word: &[u8]) -> Option<VerbName>
     if word == b"cas".as_slice() {
         return Some(VerbName::Update(VerbUpdate::CompareAndSet));
     }
+    if word == b"append".as_slice() {
+        return Some(VerbName::Update(VerbUpdate::Append));
+    }
+    if word == b"prepend".as_slice() {
+        return Some(VerbName::Update(VerbUpdate::Prepend));
+    }
     if word == b"add".as_slice() {
         return Some(VerbName::Update(VerbUpdate::Add));
     }
@@ -290,6 +309,42 @@ fn verb_name(word: &[u8]) -> Option<VerbName>
         return Some(VerbName::Health);
     }
     None
+}
+
+impl VerbName {
+    /// Returns the options that have no meaning for this verb.
+    const fn meaningless<'a>(self) -> &'a [&'a str]
+        ensures { map (λ n. n.now) result.now ≡ meaningless_of self }
+    {
+        match self {
+            VerbName::Update(VerbUpdate::Add | VerbUpdate::Subtract) => {
+                &["mode", "hex", "decimal"]
+            }
+            VerbName::Update(_) => &["mode"],
+            VerbName::Get => &["client", "number"],
+            VerbName::Members => &[
+                "node",
+                "chain",
+                "mode",
+                "client",
+                "number",
+                "hex",
+                "decimal",
+                "print-pass",
+            ],
+            VerbName::Health => &["node", "mode", "number", "hex", "decimal", "print-pass"],
+        }
+    }
+}
+
+/// Returns the options that have no meaning for the verb of this name; none if there is no such verb.
+pub(crate) fn meaningless_options<'a>(verb: &str) -> &'a [&'a str]
+    ensures { map (λ n. n.now) result.now ≡ meaningless_options verb.now }
+{
+    match verb_name(verb.as_bytes()) {
+        Some(name) => name.meaningless(),
+        None => &[],
+    }
 }
 
 /// Returns true if the word is the name of a verb for people.

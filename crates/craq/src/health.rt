@@ -286,10 +286,16 @@ fn advise<R: AllocGlobal + Eprint>(rt: &R, members: &[(NodeId, Seen)]) -> Result
 
 /// Returns the status by what was seen of the members.
 fn status_of(members: &[(NodeId, Seen)]) -> u8 {
-    if members.iter().any(|member| matches!(member.1, Seen::Silent)) {
+    if members
+        .iter()
+        .any(|member| matches!(member.1, Seen::Silent))
+    {
         return NO_CONNECTION;
     }
-    if members.iter().all(|member| matches!(member.1, Seen::Read(_))) {
+    if members
+        .iter()
+        .all(|member| matches!(member.1, Seen::Read(_)))
+    {
         0
     } else {
         REFUSED

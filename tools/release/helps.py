@@ -105,7 +105,7 @@ def completion(it, below=()):
     options = {**it.options(),
                **{name: takes for command in below for name, takes in command.options().items()}}
     valued = sorted(name for name, takes in options.items() if takes)
-    words = " ".join([*it.words(), *sorted(options)])
+    words = " ".join(dict.fromkeys([*it.words(), *sorted(options)]))
     function = f"_{it.name.replace('-', '_')}"
     return "\n".join([
         f"# Completion of {it.name} for bash.", f"{function}() {{",

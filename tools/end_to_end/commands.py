@@ -147,11 +147,11 @@ WORDS = {
     1: "a key has 1 to 128 bytes", 2: "a value has at most 4096 bytes",
     3: "each list of a transaction has at most 16 items",
     4: "a transaction compares, reads or writes at least one object",
-    5: "an object stands twice in one list of the transaction", 6: "request numbers begin at 1",
-    7: "there is no such chain", 8: "the objects are not all of the chain that was asked",
+    5: "an object occurs twice in one list of the transaction", 6: "request numbers begin at 1",
+    7: "there is no such chain", 8: "the objects are not all in the chain that was named",
     9: "updates go to the head of the chain, node {}",
-    13: "a counter has no next number, or the pass is too far above the largest told", 14: "out of memory",
-    23: "the chain has no such node, or the message is for another",
+    13: "a counter is at its greatest value, or the pass is too large", 14: "out of memory",
+    23: "there is no such node here",
 }
 
 

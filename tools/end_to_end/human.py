@@ -69,7 +69,7 @@ ROWS = [
     # refused by the store
     ("set colour grey --node 3", 3, "", "craq: refused 9 1: updates go to the head of the chain, node 1\n"),
     ("get colour --node 9", 3, "",
-     "craq: refused 23: the chain has no such node, or the message is for another\n"),
+     "craq: refused 23: there is no such node here\n"),
     ("--chain 9 get colour", 3, "", "craq: refused 7: there is no such chain\n"),
     ("--chain nowhere set colour grey", 3, "", "craq: refused 7: there is no such chain\n"),
 ]
@@ -111,7 +111,7 @@ WRONG = [
     ("txn r:a:b", "craq: expected ITEM, one of c:KEY:VERSION, r:KEY and w:KEY:VALUE, with a KEY without a colon, "
                   "and found 'r:a:b'\n"),
     ("txn", "craq: a transaction compares, reads or writes at least one object\n"),
-    ("txn r:a r:a", "craq: an object stands twice in one list of the transaction\n"),
+    ("txn r:a r:a", "craq: an object occurs twice in one list of the transaction\n"),
     ("txn " + " ".join(f"r:{it}" for it in range(17)), "craq: each list of a transaction has at most 16 items\n"),
     (f"get {LONG_KEY}", KEY_WORDS), (f"set {LONG_KEY} a", KEY_WORDS), (f"txn r:{LONG_KEY}", KEY_WORDS),
     (f"set a {LONG_VALUE}", "craq: a value has at most 4096 bytes\n"),

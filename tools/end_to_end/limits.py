@@ -212,8 +212,8 @@ def logged(checks, craqd):
         for made in more:
             checks.same("one connection more, with a log", rest_or_none(made), b"")
         log = (f"connection 0 from 127.0.0.1:{port_of(first)}\n"
-               "connection 0: refused 23, the chain has no such node, or the message is for another\n"
-               "connection 0: refused 13, a counter has no next number, or the pass is too far above the largest told\n"
+               "connection 0: refused 23, there is no such node here\n"
+               "connection 0: refused 13, a counter is at its greatest value, or the pass is too large\n"
                f"connection from 127.0.0.1:{port_of(more[0])} turned away, 1 so far\n"
                f"connection from 127.0.0.1:{port_of(more[1])} turned away, 2 so far\n"
                "connection 0 ended\n")

@@ -24,7 +24,7 @@ pub enum Refusal {
     #[error("a transaction compares, reads or writes at least one object")]
     EmptyTransaction,
     /// An object occurs twice in one list of the transaction.
-    #[error("an object stands twice in one list of the transaction")]
+    #[error("an object occurs twice in one list of the transaction")]
     DuplicateKey,
     /// The request number is 0.
     #[error("request numbers begin at 1")]
@@ -33,7 +33,7 @@ pub enum Refusal {
     #[error("there is no such chain")]
     UnknownChain,
     /// The objects of the request are not all in the chain that it addresses.
-    #[error("the objects are not all of the chain that was asked")]
+    #[error("the objects are not all in the chain that was named")]
     TwoChains,
     /// The update reached a node that is not the head; carries the head's id.
     #[error("updates go to the head of the chain, node {0}")]
@@ -44,19 +44,18 @@ pub enum Refusal {
     /// The node is stopped; it refuses every request.
     #[error("the node is stopped")]
     Stopped,
-    /// The request would have to wait, and 1,024 requests already wait at the node. For a
-    /// connection: the server has as many open connections as it accepts.
-    #[error("too many asks wait at the node: 1024")]
+    /// The request would have to wait, and 1,024 requests already wait at the node.
+    #[error("1024 requests already wait at the node")]
     PendingFull,
-    /// A counter is at its greatest value. From a server also: the pass is too far above the
-    /// largest stamp that the server returned.
-    #[error("a counter has no next number, or the pass is too far above the largest told")]
+    /// A counter is at its greatest value. From a server with a bound on passes also: the pass is
+    /// too far above the largest one that it sent.
+    #[error("a counter is at its greatest value, or the pass is too large")]
     Exhausted,
     /// Out of memory.
     #[error("out of memory")]
     Memory,
     /// The bytes encode no message.
-    #[error("the bytes spell no message")]
+    #[error("the bytes encode no message")]
     BadFrame,
     /// The frame's length is above 1,048,576 bytes.
     #[error("a frame has at most 1048576 bytes")]
@@ -65,7 +64,7 @@ pub enum Refusal {
     #[error("the node is not a member of the chain")]
     NotMember,
     /// The member to remove is not stopped.
-    #[error("a member is stopped before it is removed")]
+    #[error("the member is not stopped")]
     NotStopped,
     /// The id to join was a member before, or is 0.
     #[error("the node id was used in this chain before")]
@@ -74,13 +73,13 @@ pub enum Refusal {
     #[error("a chain has at most 8 members")]
     ChainFull,
     /// The node to remove is the only member.
-    #[error("the only member of a chain stays")]
+    #[error("the only member of a chain cannot be removed")]
     LastNode,
     /// The message to deliver was not sent.
     #[error("there is no such message")]
     UnknownMessage,
     /// The chain has no such node, or the message is for another node.
-    #[error("the chain has no such node, or the message is for another")]
+    #[error("there is no such node here")]
     WrongNode,
     /// An audit was requested of a store that keeps no journals.
     #[error("the store keeps no journals")]

@@ -111,9 +111,9 @@ def source(runs):
 
 
 def block():
-    """Returns the part of the page between the marks."""
-    runs = stored()
-    rows = {name: row for it in runs for name, row in it.rows.items()}
+    """Returns the part of the page between the marks. Crates that are gone do not count."""
+    runs, present = stored(), set(repository.crates())
+    rows = {name: row for it in runs for name, row in it.rows.items() if name in present}
     kinds, total = sums(rows, sum(it.other for it in runs))
     return "\n\n".join([kinds, wrapped(distance(total, rows)), dearest(rows), each(rows),
                         wrapped(source(runs))]) + "\n"

@@ -169,18 +169,6 @@ fn take_membership(
     }
 }
 
-/// Returns the next ticket if a request was accepted, else the last one.
-fn ticket_after(accepted: bool, last: Ticket) -> Ticket
-    requires { accepted ≡ true → last < 2 ^ 64 - 1 }
-    ensures { result ≡ ticket_by accepted last }
-{
-    if accepted {
-        Ticket::new(last.get() + 1)
-    } else {
-        last
-    }
-}
-
 impl<H: History> Node<H> {
     /// Applies a change after which the node satisfies the invariant. Over a compacting history the
     /// node then represents one that forgot the settled entries. Fails only when out of memory; the
@@ -214,7 +202,9 @@ impl<H: History> Node<H> {
             change.waiting,
         );
         self.ready = self.ready || change.becomes_ready;
-        self.last_ticket = ticket_after(change.accepted, self.last_ticket);
+        if change.accepted {
+            self.last_ticket = Ticket::new(self.last_ticket.get() + 1);
+        }
         Ok(())
     }
 }

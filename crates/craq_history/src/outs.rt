@@ -29,6 +29,22 @@ impl Sender {
     }
 }
 
+/// The pending sends of a ready node: its entries without an acknowledgement, in two parts, and its
+/// reads without a version.
+#[derive(Clone, Copy)]
+pub struct PendingSends<'a> {
+    /// The entries of the history after the commit index.
+    pub held: &'a [Entry],
+    /// The entries that follow them and are not in the history yet.
+    pub appended: &'a [Entry],
+    /// The length of the history with both.
+    pub length: Seq,
+    /// The commit index.
+    pub acknowledged: Seq,
+    /// The reads that wait for a version.
+    pub reads: &'a [WaitingRead],
+}
+
 /// Returns a message of the node in its epoch. The journaled node (`Cell`) sets its stamp and
 /// index.
 pub fn message(sender: &Sender, to: NodeId, body: Body) -> Out
@@ -161,21 +177,20 @@ fn send_all(
     Ok(())
 }
 
-/// Adds the sends of consecutive entries, given in two parts. They go in runs of 16: a run of one
-/// as an entry, a longer one as a batch (this project's profile). Fails only when out of memory;
-/// the outs are unchanged on error.
+/// Adds the sends of consecutive entries. They go in runs of 16: a run of one as an entry, a longer
+/// one as a batch (this project's profile). Fails only when out of memory; the outs are unchanged
+/// on error.
 pub fn send_entries(
     outs: &mut Vec<Out>,
     alloc: Global,
     sender: &Sender,
     to: NodeId,
     entries: &[Entry],
-    later: &[Entry],
 ) -> Result<(), AllocError>
-    ensures sent { OnOk result (outs.new.items ≡ outs.old.items ++ map (sent_from sender.now.name sender.now.epoch to) (entry_bodies (entries.now ++ later.now))) }
+    ensures sent { OnOk result (outs.new.items ≡ outs.old.items ++ map (sent_from sender.now.name sender.now.epoch to) (entry_bodies entries.now)) }
     ensures same { OnErr result (outs.new.items ≡ outs.old.items) }
 {
-    let bodies = messages_of(alloc, entries, later)?;
+    let bodies = messages_of(alloc, entries, &[])?;
     send_all(outs, sender, to, bodies)
 }
 
@@ -216,18 +231,16 @@ fn send_queries(
     Ok(())
 }
 
-/// Adds these entries, in two parts, and the length of the history, to the successor. The outs are
+/// Adds the pending entries, and the length of the history, to the successor. The outs are
 /// unchanged on error.
 fn catch_up(
     outs: &mut Vec<Out>,
     alloc: Global,
     sender: &Sender,
     members: &[NodeId],
-    entries: &[Entry],
-    later: &[Entry],
-    length: u64,
+    pending: &PendingSends<'_>,
 ) -> Result<(), AllocError>
-    ensures sent { OnOk result (outs.new.items ≡ outs.old.items ++ to_neighbour (successor_in members.now sender.now.name.node) (caught_up sender.now.name sender.now.epoch (entries.now ++ later.now) length)) }
+    ensures sent { OnOk result (outs.new.items ≡ outs.old.items ++ to_neighbour (successor_in members.now sender.now.name.node) (caught_up sender.now.name sender.now.epoch (pending.now.held.now ++ pending.now.appended.now) pending.now.length)) }
     ensures same { OnErr result (outs.new.items ≡ outs.old.items) }
 {
     let own = sender.id();
@@ -235,8 +248,9 @@ fn catch_up(
         return Ok(());
     };
     let len = outs.len();
-    send_entries(outs, alloc, sender, to, entries, later)?;
-    let sent = send(outs, sender, to, Body::Floor(Seq::new(length)));
+    let bodies = messages_of(alloc, pending.held, pending.appended)?;
+    send_all(outs, sender, to, bodies)?;
+    let sent = send(outs, sender, to, Body::Floor(pending.length));
     undo_if_err(outs, len, sent)
 }
 
@@ -259,32 +273,28 @@ pub fn tell_predecessor(
 }
 
 /// Adds the sends that a ready node repeats. To its successor: the entries after the commit index
-/// (in two parts) and the length of its history. To its predecessor: the commit index. To the last
-/// member, if that is another: a query for each waiting read. Fails only when out of memory; the
-/// outs are unchanged on error.
+/// and the length of its history. To its predecessor: the commit index. To the last member, if that
+/// is another: a query for each waiting read. Fails only when out of memory; the outs are unchanged
+/// on error.
 pub fn add_ready_outs(
     outs: &mut Vec<Out>,
     alloc: Global,
     sender: &Sender,
     members: &[NodeId],
-    entries: &[Entry],
-    later: &[Entry],
-    length: u64,
-    acknowledged: u64,
-    reads: &[WaitingRead],
+    pending: &PendingSends<'_>,
 ) -> Result<(), AllocError>
-    ensures sent { OnOk result (outs.new.items ≡ outs.old.items ++ ready_outs sender.now.name sender.now.epoch members.now (entries.now ++ later.now) length acknowledged reads.now) }
+    ensures sent { OnOk result (outs.new.items ≡ outs.old.items ++ ready_outs sender.now.name sender.now.epoch members.now (pending.now.held.now ++ pending.now.appended.now) pending.now.length pending.now.acknowledged pending.now.reads.now) }
     ensures same { OnErr result (outs.new.items ≡ outs.old.items) }
 {
     let len = outs.len();
-    catch_up(outs, alloc, sender, members, entries, later, length)?;
-    let reported = tell_predecessor(outs, sender, members, Body::Ack(Seq::new(acknowledged)));
+    catch_up(outs, alloc, sender, members, pending)?;
+    let reported = tell_predecessor(outs, sender, members, Body::Ack(pending.acknowledged));
     undo_if_err(outs, len, reported)?;
     let last = last_member(members);
     if last == sender.id() {
         return Ok(());
     }
-    let asked = send_queries(outs, alloc, sender, last, reads);
+    let asked = send_queries(outs, alloc, sender, last, pending.reads);
     undo_if_err(outs, len, asked)
 }
 

@@ -1,7 +1,7 @@
 -- A step keeps the node's invariant, and all its sends have an encoding.
 use Rattle.std.proofs.Common.{◌≡◌, ◌≤◌, true, false, Ok, Err, [], refl, sym, ap, ◌∙◌, subst}
 use Rattle.std.proofs.Math.Bool.{or-false}
-use Rattle.std.specs.Prelude.{Bool, Result, IfOk, ◌==◌}
+use Rattle.std.specs.Prelude.{Bool, Result, IfOk, ◌==◌, not}
 use Rattle.craq_names.specs.declared.name.NodeName.{NodeName}
 use Rattle.craq_names.specs.declared.refusal.Refusal.{Refusal}
 use Rattle.craq_model.specs.declared.ask.Event.{Event}
@@ -78,9 +78,9 @@ still_sound p c is s =
     let same : changed p no_change ≡ p = ap (λ (b : Bool). record p { ready = b }) (or-false p.ready) in
     subst IsSound (sym (ap (λ (x : Change). changed p x) is ∙ same)) s
 
-pub sound_member : (p : Plain) (name : NodeName) (config : Config) → p ≡ record (opening_member name config.members) { epoch = config.epoch; ready = true } → (1 ≤ name.node) × IsFirstWith name config → IsSound p
+pub sound_member : (p : Plain) (name : NodeName) (config : Config) → p ≡ record (opening_member name config.members) { epoch = config.epoch; ready = not (config.epoch == 0) } → (1 ≤ name.node) × IsFirstWith name config → IsSound p
 sound_member p name config is h =
-    subst IsSound (sym (is ∙ ap (λ n. record (opening_member name config.members) { epoch = n; ready = true }) h.1.epoch)) (member_is_sound name config.members h.0 h.1.members)
+    subst IsSound (sym (is ∙ ap (λ n. record (opening_member name config.members) { epoch = n; ready = not (n == 0) }) h.1.epoch)) (member_is_sound name config.members h.0 h.1.members)
 
 pub sound_joined : (p : Plain) (name : NodeName) → p ≡ record (opening_member name []) { epoch = 0; ready = false } → 1 ≤ name.node → IsSound p
 sound_joined p name is h = subst IsSound (sym is) (joined_is_sound name h)

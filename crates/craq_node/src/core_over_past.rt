@@ -1,7 +1,7 @@
 //! `NodeCore`: the `Core` of this crate, over any `History`. It admits an event, lets a rule plan a
 //! change, and applies the change. `craq_compact_history`, `craq_play` and `craq_explain` instantiate it with
 //! their pasts.
-ghost use Rattle.std.specs.Prelude.{◌≡◌, ◌≢◌, true, IfOk, IsOk, IsSome};
+ghost use Rattle.std.specs.Prelude.{◌≡◌, ◌≢◌, ◌==◌, true, not, IfOk, IsOk, IsSome};
 ghost use Rattle.craq_model.specs.Deliveries.{delivery_transition};
 ghost use Rattle.craq_model.specs.Plain.{Plain, opening_member};
 ghost use Rattle.craq_model.specs.Node.{event_transition, is_for};
@@ -129,17 +129,12 @@ impl<H: History> NodeCore<H> {
         &self.node
     }
 
-    /// Makes the node before its first step.
+    /// Makes the node before its first step. It begins ready if it has a membership, so if its epoch
+    /// is not 0.
     #[tactic(auto, using(crate::proofs::Remembered::opening_seen))]
-    fn unmoved(
-        alloc: Global,
-        name: NodeName,
-        epoch: Epoch,
-        members: Items<NodeId>,
-        ready: bool,
-    ) -> Self
-        requires { IsSound (record (opening_member name members) { epoch = epoch; ready = ready }) }
-        ensures { IsRemembered H.forgets (record (opening_member name members) { epoch = epoch; ready = ready }) (plain_at H.past result.node result.switch.running) }
+    fn unmoved(alloc: Global, name: NodeName, epoch: Epoch, members: Items<NodeId>) -> Self
+        requires { IsSound (record (opening_member name members) { epoch = epoch; ready = not (epoch == 0) }) }
+        ensures { IsRemembered H.forgets (record (opening_member name members) { epoch = epoch; ready = not (epoch == 0) }) (plain_at H.past result.node result.switch.running) }
     {
         let switch = Switch::on(name);
         NodeCore {
@@ -147,7 +142,7 @@ impl<H: History> NodeCore<H> {
                 name: switch.name(),
                 epoch,
                 members,
-                ready,
+                ready: epoch.get() != 0,
                 history: H::new(alloc),
                 floor: None,
                 gathering: None,
@@ -204,10 +199,10 @@ impl<H: History> Core for NodeCore<H> {
     #[tactic(auto, using(crate::proofs::Kept::sound_member, crate::proofs::Kept::sound_joined))]
     fn open(alloc: Global, name: NodeName, config: Option<&Config>) -> Result<Self, Refusal> {
         match config {
-            None => Ok(NodeCore::unmoved(alloc, name, Epoch::new(0), Items::new(alloc), false)),
+            None => Ok(NodeCore::unmoved(alloc, name, Epoch::new(0), Items::new(alloc))),
             Some(config) => {
                 let members = config.members.copied(alloc)?;
-                Ok(NodeCore::unmoved(alloc, name, config.epoch, members, true))
+                Ok(NodeCore::unmoved(alloc, name, config.epoch, members))
             }
         }
     }

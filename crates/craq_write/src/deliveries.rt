@@ -110,19 +110,11 @@ fn state_ahead<H: History>(
     ensures ok { OnOk result (outs.new.items ≡ outs.old.items ++ map (sent_from node.now.name node.now.epoch to) (if nat_lt count (H.past node.now.history).acknowledged then copy_bodies (H.past node.now.history).acknowledged (clean_in (H.past node.now.history)) else [])) }
     ensures err { IfErr result (λ e. (count < (H.past node.now.history).acknowledged) × CannotSend (clean_in (H.past node.now.history)) e) }
 {
-    let acknowledged = node.history.acknowledged();
-    if count >= acknowledged {
+    if count >= node.history.acknowledged() {
         return Ok(());
     }
     let state = node.history.snapshot(alloc)?;
-    send_state(
-        outs,
-        alloc,
-        &node.sender(),
-        to,
-        Seq::new(acknowledged),
-        state,
-    )
+    send_state(outs, alloc, node, to, state)
 }
 
 /// Adds the entries after a position, which is at least the commit index, and then their count.
@@ -137,7 +129,7 @@ fn entries_ahead<H: History>(
     ensures { OnOk result (outs.new.items ≡ outs.old.items ++ caught_up node.now.name node.now.epoch (entries_in (H.past node.now.history) position) (length_in (H.past node.now.history)) to) }
 {
     let sender = node.sender();
-    send_entries(outs, alloc, &sender, to, node.history.after(position), &[])?;
+    send_entries(outs, alloc, &sender, to, node.history.after(position))?;
     let length = Seq::new(node.history.len());
     outs.push(message(&sender, to, Body::Floor(length)))?;
     Ok(())

@@ -144,7 +144,7 @@ pub(crate) fn forward(
     ensures { OnOk result (outs.new.items ≡ outs.old.items ++ forwarded sender.now.name sender.now.epoch members.now entries.now) }
 {
     match successor_of(members, sender.id()) {
-        Some(to) => send_entries(outs, alloc, sender, to, entries, &[]),
+        Some(to) => send_entries(outs, alloc, sender, to, entries),
         None => Ok(()),
     }
 }

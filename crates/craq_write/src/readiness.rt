@@ -2,6 +2,7 @@
 //! `deliveries` and `gathering` call this.
 ghost use Rattle.std.specs.Prelude.{◌≡◌, ◌≤◌, ◌+◌, ◌==◌, ◌++◌, [], length, Some, true, false, if◌then◌else◌, OnOk, IfOk, IsOk, IsSome};
 ghost use Rattle.craq_model.specs.Deliveries.{copy_transition, floor_transition, with_copy};
+ghost use Rattle.craq_model.specs.Past.{entries_in};
 ghost use Rattle.craq_model.specs.Plain.{length_of, with_entries};
 ghost use Rattle.craq_model.specs.Settle.{is_reached, readiness_transition};
 ghost use Rattle.craq_history.specs.Change.{no_change};
@@ -13,7 +14,7 @@ ghost use Rattle.craq_write.specs.Settling.{IsIdle};
 
 use craq_commands::{Entry, State};
 use craq_history::members::{last_member, predecessor_of};
-use craq_history::outs::add_ready_outs;
+use craq_history::outs::{PendingSends, add_ready_outs};
 use craq_history::steps::{done, ignoring};
 use craq_history::{Change, GatheringChange, History, HistoryChange, Node};
 use craq_model::{Out, Step, Why};
@@ -30,17 +31,13 @@ fn is_floor_reached(floor: Option<Seq>, count: Seq) -> bool
     }
 }
 
-/// Returns the sends of a node that becomes ready with these entries, in two parts, after the
-/// commit index; none if it has no membership.
+/// Returns the pending sends of a node that becomes ready; none if it has no membership.
 fn outs_when_ready<H: History>(
     alloc: Global,
     node: &Node<H>,
-    entries: &[Entry],
-    later: &[Entry],
-    length: Seq,
-    acknowledged: Seq,
+    pending: &PendingSends<'_>,
 ) -> Result<Vec<Out>, AllocError>
-    ensures { IfOk result (λ outs. outs.items ≡ (if node.now.epoch == 0 then [] else ready_outs node.now.name node.now.epoch node.now.members (entries.now ++ later.now) length acknowledged node.now.waiting_reads.items)) }
+    ensures { IfOk result (λ outs. outs.items ≡ (if node.now.epoch == 0 then [] else ready_outs node.now.name node.now.epoch node.now.members (pending.now.held.now ++ pending.now.appended.now) pending.now.length pending.now.acknowledged pending.now.reads.now)) }
 {
     let mut outs = Vec::new(alloc);
     if node.epoch.get() == 0 {
@@ -51,13 +48,49 @@ fn outs_when_ready<H: History>(
         alloc,
         &node.sender(),
         node.members.as_slice(),
-        entries,
-        later,
-        length.get(),
-        acknowledged.get(),
-        node.waiting_reads.as_slice(),
+        pending,
     )?;
     Ok(outs)
+}
+
+/// Returns the sends of a node that becomes ready and has committed a history of this length; none
+/// if it has no membership.
+fn outs_when_committed<H: History>(
+    alloc: Global,
+    node: &Node<H>,
+    length: Seq,
+) -> Result<Vec<Out>, AllocError>
+    ensures { IfOk result (λ outs. outs.items ≡ (if node.now.epoch == 0 then [] else ready_outs node.now.name node.now.epoch node.now.members [] length length node.now.waiting_reads.items)) }
+{
+    let pending = PendingSends {
+        held: &[],
+        appended: &[],
+        length,
+        acknowledged: length,
+        reads: node.waiting_reads.as_slice(),
+    };
+    outs_when_ready(alloc, node, &pending)
+}
+
+/// Returns the sends of a node that becomes ready as it appends these entries to reach this length;
+/// none if it has no membership.
+fn outs_when_appended<H: History>(
+    alloc: Global,
+    node: &Node<H>,
+    appended: &[Entry],
+    length: Seq,
+) -> Result<Vec<Out>, AllocError>
+    ensures { IfOk result (λ outs. outs.items ≡ (if node.now.epoch == 0 then [] else ready_outs node.now.name node.now.epoch node.now.members (entries_in (H.past node.now.history) (H.past node.now.history).acknowledged ++ appended.now) length (H.past node.now.history).acknowledged node.now.waiting_reads.items)) }
+{
+    let acknowledged = node.history.acknowledged();
+    let pending = PendingSends {
+        held: node.history.after(acknowledged),
+        appended,
+        length,
+        acknowledged: Seq::new(acknowledged),
+        reads: node.waiting_reads.as_slice(),
+    };
+    outs_when_ready(alloc, node, &pending)
 }
 
 /// Returns the change of the gathered parts when the node holds this many entries: those of a
@@ -106,19 +139,10 @@ fn ready_by_entries<H: History>(
     ensures { IfOk result (λ r. IsEffectOf (plain_of H.past node.now) r (readiness_transition (with_entries (plain_of H.past node.now) entries))) }
 {
     if last_member(node.members.as_slice()) == node.name.node {
-        let outs = outs_when_ready(alloc, node, &[], &[], end, end)?;
+        let outs = outs_when_committed(alloc, node, end)?;
         return Ok((growing_ready(entries, Some(end)), done(outs)));
     }
-    let acknowledged = node.history.acknowledged();
-    let held = node.history.after(acknowledged);
-    let outs = outs_when_ready(
-        alloc,
-        node,
-        held,
-        entries.as_slice(),
-        end,
-        Seq::new(acknowledged),
-    )?;
+    let outs = outs_when_appended(alloc, node, entries.as_slice(), end)?;
     Ok((growing_ready(entries, None), done(outs)))
 }
 
@@ -145,12 +169,11 @@ pub(crate) fn taken_unready<H: History>(
 }
 
 /// Returns the change that installs a state.
-fn copying(state: State, position: Seq, becomes_ready: bool, gathering: GatheringChange) -> Change
-    ensures { result ≡ record no_change { history = HistoryChange.IsCopied position state; becomes_ready = becomes_ready; gathering = gathering } }
+fn copying(state: State, position: Seq, gathering: GatheringChange) -> Change
+    ensures { result ≡ record no_change { history = HistoryChange.IsCopied position state; gathering = gathering } }
 {
     let mut change = Change::none();
     change.history = HistoryChange::IsCopied { position, state };
-    change.becomes_ready = becomes_ready;
     change.gathering = gathering;
     change
 }
@@ -167,11 +190,10 @@ fn ready_by_copy<H: History>(
     requires reached { is_reached node.now.floor position ≡ true }
     ensures { IfOk result (λ r. IsEffectOf (plain_of H.past node.now) r (readiness_transition (with_copy (plain_of H.past node.now) position state))) }
 {
-    let outs = outs_when_ready(alloc, node, &[], &[], position, position)?;
-    Ok((
-        copying(state, position, true, GatheringChange::Dropped),
-        done(outs),
-    ))
+    let outs = outs_when_committed(alloc, node, position)?;
+    let mut change = copying(state, position, GatheringChange::Dropped);
+    change.becomes_ready = true;
+    Ok((change, done(outs)))
 }
 
 /// Plans a state that replaces the history of a node that is not ready. The node becomes ready if
@@ -190,10 +212,7 @@ pub(crate) fn state_taken<H: History>(
         return ready_by_copy(alloc, node, position, state);
     }
     let gathering = gathering_at(node, position);
-    Ok((
-        copying(state, position, false, gathering),
-        done(Vec::new(alloc)),
-    ))
+    Ok((copying(state, position, gathering), done(Vec::new(alloc))))
 }
 
 /// Plans a state from the predecessor, at a node that is not ready. It replaces the history if it
@@ -237,7 +256,7 @@ fn ready_by_floor<H: History>(
 {
     let length = Seq::new(node.history.len());
     if last_member(node.members.as_slice()) == node.name.node {
-        let outs = outs_when_ready(alloc, node, &[], &[], length, length)?;
+        let outs = outs_when_committed(alloc, node, length)?;
         let mut change = Change::none();
         change.floor = Some(count);
         change.becomes_ready = true;
@@ -245,9 +264,7 @@ fn ready_by_floor<H: History>(
         change.acknowledged = Some(length);
         return Ok((change, done(outs)));
     }
-    let acknowledged = node.history.acknowledged();
-    let held = node.history.after(acknowledged);
-    let outs = outs_when_ready(alloc, node, held, &[], length, Seq::new(acknowledged))?;
+    let outs = outs_when_appended(alloc, node, &[], length)?;
     let mut change = Change::none();
     change.floor = Some(count);
     change.becomes_ready = true;

@@ -10,6 +10,7 @@ ghost use Rattle.craq_write.specs.Sent.{CannotSend};
 
 use craq_commands::State;
 use craq_history::outs::{Sender, message};
+use craq_history::{History, Node};
 use craq_model::{Body, Out, PART_LIMIT, StatePart};
 use craq_names::{Items, NodeId, Refusal, Seq};
 use std::alloc::{AllocError, Global};
@@ -85,29 +86,30 @@ fn send_parts(
     Ok(())
 }
 
-/// Adds the sends of the state after a position: whole if it has at most 64 items, else in parts of
-/// 64 (this project's profile). Fails with `Memory` when out of memory, and with `Exhausted` if it
-/// has more parts than 32 bits count.
+/// Adds the sends of the state after the node's commit index: whole if it has at most 64 items, else
+/// in parts of 64 (this project's profile). Fails with `Memory` when out of memory, and with
+/// `Exhausted` if it has more parts than 32 bits count.
 #[tactic(auto, unfolding(craq_model::specs::Sends::copy_bodies))]
-pub(crate) fn send_state(
+pub(crate) fn send_state<H: History>(
     outs: &mut Vec<Out>,
     alloc: Global,
-    sender: &Sender,
+    node: &Node<H>,
     to: NodeId,
-    position: Seq,
     state: State,
 ) -> Result<(), Refusal>
-    ensures ok { OnOk result (outs.new.items ≡ outs.old.items ++ map (sent_from sender.now.name sender.now.epoch to) (copy_bodies position state)) }
+    ensures ok { OnOk result (outs.new.items ≡ outs.old.items ++ map (sent_from node.now.name node.now.epoch to) (copy_bodies (H.past node.now.history).acknowledged state)) }
     ensures err { IfErr result (λ e. CannotSend state e) }
 {
     let Some(count) = part_count_of(&state) else {
         return Err(Refusal::Exhausted);
     };
+    let sender = node.sender();
+    let position = Seq::new(node.history.acknowledged());
     if count <= 1 {
-        outs.push(message(sender, to, Body::Copy { position, state }))?;
+        outs.push(message(&sender, to, Body::Copy { position, state }))?;
         return Ok(());
     }
     let parts = cut_into_parts(alloc, position, state, count)?;
-    send_parts(outs, sender, to, parts)?;
+    send_parts(outs, &sender, to, parts)?;
     Ok(())
 }

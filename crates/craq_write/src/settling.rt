@@ -10,7 +10,7 @@ ghost use Rattle.craq_write.specs.Settling.{in_membership};
 
 use crate::answers::answer_all;
 use craq_history::members::{is_member_of, last_member};
-use craq_history::outs::{Sender, add_ready_outs, add_unready_outs};
+use craq_history::outs::{PendingSends, Sender, add_ready_outs, add_unready_outs};
 use craq_history::steps::{done, ignoring};
 use craq_history::{Change, GatheringChange, History, Node, WaitingChange};
 use craq_model::{Config, Out, Step, Why};
@@ -40,17 +40,14 @@ fn add_outs_in<H: History>(
         return add_unready_outs(outs, &sender, members, node.history.len());
     }
     let acknowledged = node.history.acknowledged();
-    add_ready_outs(
-        outs,
-        alloc,
-        &sender,
-        members,
-        node.history.after(acknowledged),
-        &[],
-        node.history.len(),
-        acknowledged,
-        node.waiting_reads.as_slice(),
-    )
+    let pending = PendingSends {
+        held: node.history.after(acknowledged),
+        appended: &[],
+        length: Seq::new(node.history.len()),
+        acknowledged: Seq::new(acknowledged),
+        reads: node.waiting_reads.as_slice(),
+    };
+    add_ready_outs(outs, alloc, &sender, members, &pending)
 }
 
 /// Adds the sends of a tick: an unready node sends its entry count to its predecessor, a ready one
@@ -88,8 +85,15 @@ fn add_tail_outs<H: History>(
         name: node.name,
         epoch,
     };
-    let length = node.history.len();
-    add_ready_outs(outs, alloc, &sender, members, &[], &[], length, length, &[])
+    let length = Seq::new(node.history.len());
+    let pending = PendingSends {
+        held: &[],
+        appended: &[],
+        length,
+        acknowledged: length,
+        reads: &[],
+    };
+    add_ready_outs(outs, alloc, &sender, members, &pending)
 }
 
 /// Puts the membership into the change, and drops what was gathered in the old one.

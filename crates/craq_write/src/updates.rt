@@ -21,6 +21,13 @@ use craq_model::{Answer, Out, Step, WaitingUpdate};
 use craq_names::{ClientId, Copied, Refusal, RequestNo, Seq, Ticket};
 use std::alloc::{AllocError, Global};
 
+/// A change, and the commit index after it.
+#[derive(Drop)]
+struct CommittingChange {
+    change: Change,
+    acknowledged: u64,
+}
+
 /// Returns the change with an accepted request and its effect on the waiting requests.
 fn accepting(change: Change, waiting: WaitingChange) -> Change
     ensures { result ≡ record change { accepted = true; waiting = waiting } }
@@ -72,21 +79,24 @@ fn has_place<H: History>(node: &Node<H>, length: u64, position: u64) -> bool
 #[tactic(auto, unfolding(craq_model::specs::Asks::reply_transition, craq_model::specs::Asks::is_full))]
 fn replied<H: History>(
     node: &Node<H>,
-    change: Change,
-    acknowledged: u64,
+    committed: CommittingChange,
     position: u64,
     reply: Reply,
     sends: Vec<Out>,
 ) -> Result<(Change, Step), AllocError>
     requires room { node.now.last_ticket < 2 ^ 64 - 1 }
-    requires grows { CanGrow (length_of (plain_of H.past node.now)) change.history }
-    requires alone { change.gathering ≡ Stays }
-    requires not_yet { change.accepted ≡ false }
-    requires same { change.waiting ≡ WaitingChange.Same }
-    requires committed { acknowledged ≡ (changed (plain_of H.past node.now) change).past.acknowledged }
-    requires place { (nat_le position acknowledged || not (is_full (plain_of H.past node.now))) ≡ true }
-    ensures { IfOk result (λ r. IsComputed (plain_of H.past node.now) r (reply_transition (changed (plain_of H.past node.now) change) position reply sends.items)) }
+    requires grows { CanGrow (length_of (plain_of H.past node.now)) committed.change.history }
+    requires alone { committed.change.gathering ≡ Stays }
+    requires not_yet { committed.change.accepted ≡ false }
+    requires same { committed.change.waiting ≡ WaitingChange.Same }
+    requires committed { committed.acknowledged ≡ (changed (plain_of H.past node.now) committed.change).past.acknowledged }
+    requires place { (nat_le position committed.acknowledged || not (is_full (plain_of H.past node.now))) ≡ true }
+    ensures { IfOk result (λ r. IsComputed (plain_of H.past node.now) r (reply_transition (changed (plain_of H.past node.now) committed.change) position reply sends.items)) }
 {
+    let CommittingChange {
+        change,
+        acknowledged,
+    } = committed;
     let ticket = Ticket::new(node.last_ticket.get() + 1);
     if position <= acknowledged {
         let outs = answer_first(sends, ticket, reply)?;
@@ -104,13 +114,16 @@ fn replied<H: History>(
 
 /// Returns the change that also commits the whole history if the node is last in its membership,
 /// and the commit index after it.
-fn committing<H: History>(node: &Node<H>, change: Change, length: u64) -> (Change, u64)
+fn committing<H: History>(node: &Node<H>, change: Change, length: u64) -> CommittingChange
     requires { change.acknowledged ≡ None }
-    ensures change { result.0 ≡ (if is_last (plain_of H.past node.now) then record change { acknowledged = Some length } else change) }
-    ensures committed { result.1 ≡ committed_then (plain_of H.past node.now) length }
+    ensures change { result.change ≡ (if is_last (plain_of H.past node.now) then record change { acknowledged = Some length } else change) }
+    ensures committed { result.acknowledged ≡ committed_then (plain_of H.past node.now) length }
 {
     if last_member(node.members.as_slice()) != node.name.node {
-        return (change, node.history.acknowledged());
+        return CommittingChange {
+            change,
+            acknowledged: node.history.acknowledged(),
+        };
     }
     let change = Change {
         accepted: change.accepted,
@@ -122,7 +135,10 @@ fn committing<H: History>(node: &Node<H>, change: Change, length: u64) -> (Chang
         becomes_ready: change.becomes_ready,
         waiting: change.waiting,
     };
-    (change, length)
+    CommittingChange {
+        change,
+        acknowledged: length,
+    }
 }
 
 /// Plans an update whose number is not new and that can be taken: its reply waits for a position of
@@ -138,9 +154,9 @@ fn reported_again<H: History>(
     ensures { IfOk result (λ r. IsComputed (plain_of H.past node.now) r (reply_transition (committed_if_last (plain_of H.past node.now)) position reply.now [])) }
 {
     let reply = reply.copied(alloc)?;
-    let (change, acknowledged) = committing(node, Change::none(), node.history.len());
+    let committed = committing(node, Change::none(), node.history.len());
     let sends = Vec::new(alloc);
-    replied(node, change, acknowledged, position, reply, sends)
+    replied(node, committed, position, reply, sends)
 }
 
 /// Plans an update whose number is not new: its reply waits for its client's newest entry.
@@ -186,8 +202,8 @@ fn entered<H: History>(
     )?;
     let mut change = Change::none();
     change.history = HistoryChange::Grows(entries);
-    let (change, acknowledged) = committing(node, change, length);
-    replied(node, change, acknowledged, length, reply, sends)
+    let committed = committing(node, change, length);
+    replied(node, committed, length, reply, sends)
 }
 
 /// Returns the outcome of a new update as the next entry.

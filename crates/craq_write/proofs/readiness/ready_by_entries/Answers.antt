@@ -21,4 +21,4 @@ returns g c =
     let few : c.args.end ≤ greatest = first_of (omega arith, search rules) in
     ready_by_others p c.args.entries c.args.end c.growing_ready-2.result c.done-2.result c.in_ok-outs-2.outs.items last c.requires.end few c.requires.unready c.requires.idle c.requires.reached c.requires.within
     c.growing_ready-2.ensures
-    (rw (c.after-held.ensures, c.as_slice-2.ensures, c.new.ensures, c.acknowledged-acknowledged.ensures) at c.in_ok-outs-2.ensures) c.done-2.ensures
+    (rw c.as_slice-2.ensures at c.in_ok-outs-2.ensures) c.done-2.ensures

@@ -1,5 +1,5 @@
 -- Where an accepted call stands: after the client made it, and so after all that the client had seen before it.
-use Rattle.std.proofs.Common.{◌≡◌, ◌<◌, ℕ, List, [], ◌∷◌, ◌++◌, Option, Some, refl, sym, ap, subst, ◌∙◌, inl, inr, arith, append-nil, append_assoc}
+use Rattle.std.proofs.Common.{◌≡◌, ◌<◌, ℕ, List, [], ◌∷◌, ◌++◌, Option, Some, None, refl, sym, ap, subst, ◌∙◌, inl, inr, arith, append-nil, append_assoc}
 use Rattle.std.specs.List.{AllByRecursion}
 use Rattle.std.specs.Prelude.{Contains, ◌⊎◌}
 use Rattle.std.specs.declared.snapshot.Snapshot.{Snapshot}
@@ -7,6 +7,7 @@ use mathlib.Core.List.{IsPrefix}
 use Rattle.craq_names.specs.declared.name.NodeName.{NodeName}
 use Rattle.craq_model.specs.declared.ask.Ask.{Ask}
 use Rattle.craq_model.specs.declared.ask.Event.{Event}
+use Rattle.craq_model.specs.declared.ask.Event.TheVariants as events
 use Rattle.craq_model.specs.declared.step.Step.{Step}
 use Rattle.craq_causality.proofs.Orders.{IsIn, all_in, from_contains, in_either, in_left, in_right, to_contains}
 use Rattle.craq_ghost_history.specs.Histories.{IsAdded}
@@ -14,7 +15,7 @@ use Rattle.craq_ghost_history.proofs.Prefixes.{comparable}
 use Rattle.craq_store_history.specs.declared.entry.CallId.{CallId}
 use Rattle.craq_store_history.specs.declared.entry.Entry.{Entry}
 use Rattle.craq_store_history.specs.declared.entry.Entry.TheVariants.{Called, AtNode}
-use Rattle.craq_store_history.specs.Chains.{Accepts, AreCalls, IsBelow, IsHistory, MayCall, WasCalled}
+use Rattle.craq_store_history.specs.Chains.{Accepts, AreCalls, IsBelow, IsHistory, IsNoAsk, MayCall, WasCalled}
 use Rattle.craq_store_history.specs.Entries.{author_of}
 
 calls_at : (before done rest : List Entry) (e : Entry) → AreCalls before (done ++ e ∷ rest) → MayCall (before ++ done) e
@@ -105,6 +106,14 @@ made_within log seen reported mid before rest call name other ask a h added p is
       | inl shorter_mid ↦ shorter_mid
       | inr q ↦ by_rest log mid added.before before rest p.0 call name ask q.0 h added.now on other a there q.1
     ]
+
+-- a step on a request accepts a call that was made before, with this request
+pub asked_by : (before : List Entry) (name : NodeName) (event : Event) (call : Option CallId) (ask : Ask) → Accepts before name event call → event ≡ events.Ask ask → (its : CallId) × (call ≡ Some its) × WasCalled before its name ask
+asked_by before name event None ask a is = absurd (subst IsNoAsk is a)
+asked_by before name event (Some its) ask (own, same, called) is = (its, refl, subst (λ (r : Ask). WasCalled before its name r) (asked_same (sym same ∙ is)) called)
+  where
+    asked_same : {x y : Ask} → events.Ask x ≡ events.Ask y → x ≡ y
+    asked_same h = cc
 
 -- a step that accepts a call stands after the call, in every history that goes on from it
 pub accepted_later : (log seen reported mid before rest : List Entry) (call : CallId) (name at : NodeName) (ask : Snapshot Ask) (stamp : ℕ) (event : Snapshot Event) (pass : ℕ) (step : Snapshot Step) → IsHistory log → IsAdded author_of seen reported (Called call name ask) mid → IsPrefix mid log

@@ -21,7 +21,7 @@ calls_more before (x ∷ log) e a may =
 
 -- a call that was made before a step was made before any longer history
 pub accepts_later : (xs ys : List Entry) (name : NodeName) (event : Event) (call : Option CallId) → IsPrefix xs ys → Accepts xs name event call → Accepts ys name event call
-accepts_later xs ys name event None p a = tt
+accepts_later xs ys name event None p a = a
 accepts_later xs ys name event (Some call) p (ask, is, (s, there, same_ask)) =
     let e : Entry = Called call name s in (ask, is, (s, subst (λ zs. Contains zs e) p.1 (to_contains (xs ++ p.0) e (in_left xs p.0 e (from_contains xs e there))), same_ask))
 

@@ -1,5 +1,5 @@
--- The rule of a store's history: the lines of each chain are in causal order, and each call is made once, before it is accepted; it is
--- accepted once, or taken back.
+-- The rule of a store's history: the lines of each chain are in causal order. Each call is made once, before it is accepted; it is
+-- accepted once, or taken back. A node takes no request that is no call.
 use Rattle.std.specs.Prelude.{◌≡◌, ◌<◌, ◌≤◌, ℕ, ⊤, List, [], ◌∷◌, ◌++◌, length, Contains, Option, Some, None}
 use Rattle.std.specs.List.{AllByRecursion}
 use Rattle.std.specs.declared.snapshot.Snapshot.{Snapshot}
@@ -34,9 +34,16 @@ IsBelow call (Withdrawn c) = ⊤
 abbrev pub WasCalled : List Entry → CallId → NodeName → Ask → Type 0
 WasCalled before call name ask = (a : Snapshot Ask) × Contains before (Called call name a) × (a.value ≡ ask)
 
--- a step that accepts a call comes after it, and its ask is the call's
+-- the event is no request
+abbrev pub IsNoAsk : Event → Type 0
+IsNoAsk (events.Ask ask) = ⊥
+IsNoAsk (events.Deliver message) = ⊤
+IsNoAsk events.Tick = ⊤
+IsNoAsk events.Stop = ⊤
+
+-- a step on a request accepts a call that was made before it, with this request at this node; a step on anything else accepts none
 abbrev pub Accepts : List Entry → NodeName → Event → Option CallId → Type 0
-Accepts before name event None = ⊤
+Accepts before name event None = IsNoAsk event
 Accepts before name event (Some call) = (ask : Ask) × (event ≡ events.Ask ask) × WasCalled before call name ask
 
 -- an entry may follow those before it, as far as calls go

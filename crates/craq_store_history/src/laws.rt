@@ -5,6 +5,7 @@ ghost use Rattle.std.specs.declared.snapshot.Snapshot.{Snapshot};
 ghost use Rattle.craq_names.specs.declared.name.NodeName.{NodeName};
 ghost use Rattle.craq_model.specs.declared.ask.Ask.{Ask};
 ghost use Rattle.craq_model.specs.declared.ask.Event.{Event};
+ghost use Rattle.craq_model.specs.declared.ask.Event.TheVariants as events;
 ghost use Rattle.craq_model.specs.declared.step.Step.{Step};
 ghost use Rattle.craq_model.specs.Plain.{Plain};
 ghost use Rattle.craq_epochs.specs.Mastered.{Mastered};
@@ -16,7 +17,7 @@ ghost use Rattle.craq_ghost_history.specs.Histories.{IsAdded, MayAdd};
 ghost use Rattle.craq_store_history.specs.declared.entry.CallId.{CallId};
 ghost use Rattle.craq_store_history.specs.declared.entry.Entry.{Entry};
 ghost use Rattle.craq_store_history.specs.declared.entry.Entry.TheVariants.{Opened, Called, AtNode, AtMaster, Withdrawn};
-ghost use Rattle.craq_store_history.specs.Chains.{Accepts, IsHistory};
+ghost use Rattle.craq_store_history.specs.Chains.{Accepts, IsHistory, WasCalled};
 ghost use Rattle.craq_store_history.specs.Entries.{author_of, lines_in, master_record, members_in, node_record, permit_of};
 ghost use Rattle.craq_store_history.specs.Steps.{IsMasterAt, IsNodeAt, MayMake, MayOpen, MayOrder, MayStep};
 
@@ -49,9 +50,11 @@ pub fn authors_are_replayed()
         → MayOrder chain seen reported (master_record stamp event pass step) next → IsAdded author_of seen reported (AtMaster chain stamp event pass step) new → IsMasterAt chain new next stamp }
 {}
 
-/// A step that accepts a call stands after the call, asks what the call asks of this node, and
-/// stands after all that the client had seen before it.
+/// A step on a request accepts a call. The call was made before, with this request, at this node;
+/// and the step stands after all that the client had seen before the call.
 pub fn accepted_calls_follow()
+    ensures asked { (log done rest : List Entry) (name : NodeName) (stamp : ℕ) (event : Snapshot Event) (pass : ℕ) (step : Snapshot Step) (call : Option CallId) (ask : Ask)
+        → IsHistory log → log ≡ done ++ AtNode name stamp event pass step call ∷ rest → event.value ≡ events.Ask ask → (its : CallId) × (call ≡ Some its) × WasCalled done its name ask }
     ensures made { (log done rest : List Entry) (name : NodeName) (stamp : ℕ) (event : Snapshot Event) (pass : ℕ) (step : Snapshot Step) (call : CallId)
         → IsHistory log → log ≡ done ++ AtNode name stamp event pass step (Some call) ∷ rest → Accepts done name event.value (Some call) }
     ensures later { (log seen reported mid done rest : List Entry) (call : CallId) (name at : NodeName) (ask : Snapshot Ask) (stamp : ℕ) (event : Snapshot Event) (pass : ℕ) (step : Snapshot Step)

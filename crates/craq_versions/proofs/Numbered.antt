@@ -6,7 +6,7 @@ use Rattle.std.proofs.lemmas.Bool.{ltb-true, ltb-false}
 use Rattle.std.specs.Borrow.{Bor}
 use Rattle.std.specs.List.{last_or}
 use Rattle.std.specs.Option.{option_copied}
-use Rattle.std.specs.Prelude.{IfSome, is_some, nat_lt, ◌==◌, ◌&&◌, ◌↔◌, if◌then◌else◌, nat_le, unwrap_or, IsSome, IsTrue, slice_get}
+use Rattle.std.specs.Prelude.{IfSome, is_some, nat_lt, ◌==◌, ◌↔◌, if◌then◌else◌, nat_le, unwrap_or, IsSome, IsTrue, slice_get}
 use Rattle.std.specs.Ordering.{nat_cmp, eq_by_cmp}
 use Rattle.craq_names.specs.Maps.{at_number}
 use Rattle.craq_versions.specs.Versions.{numbered, newest_of, Follows, newest_within, versions_from, versions_settled, without_newest, clean_without, AreConsecutive, CanPush, CanSettle, CanSettleAs, IsNext, IsStored, AreVersions}
@@ -330,13 +330,6 @@ take_numbered first (suc n) (v ∷ values) = ap (λ vs. (first, v) ∷ vs) (take
 -- all versions but the newest
 pub versions_without : {V : Type 0} (first count : ℕ) (values : List V) → count ≡ length values → numbered first (take (count - 1) values) ≡ without_newest (numbered first values)
 versions_without first count values all = take_numbered first (count - 1) values ∙ ap (λ (n : ℕ). take (n - 1) (numbered first values)) (all ∙ sym (length_numbered first values))
-
--- a list with a clean version still has one while items are left
-pub still_clean : (left : ℕ) (has_clean : Bool) → (has_clean && nat_lt 0 left) ≡ (if left == 0 then false else has_clean)
-still_clean zero true = refl
-still_clean zero false = refl
-still_clean (suc n) true = grind arith
-still_clean (suc n) false = grind arith
 
 -- the stored form after the newest version is removed
 pub stored_without : {V : Type 0} (first count left : ℕ) (has_clean still : Bool) (values : List V) → IsStored first has_clean values → count ≡ length values → left ≡ length (take (count - 1) values) → still ≡ (if left == 0 then false else has_clean) → IsStored first still (take (count - 1) values)

@@ -233,8 +233,7 @@ impl<V: Drop> VersionList<V> {
         ensures room { self.old.room ≤ self.new.room }
     {
         self.items.pop();
-        let left = self.items.len();
-        self.has_clean = self.has_clean && left > 0;
+        self.has_clean = still_clean(self.items.len(), self.has_clean);
     }
 }
 
@@ -243,6 +242,13 @@ fn first_with(count: usize, first: u64, pushed: u64) -> u64
     ensures { result ≡ (if count == 0 then pushed else first) }
 {
     if count == 0 { pushed } else { first }
+}
+
+// The clean flag of a list with `count` versions left.
+fn still_clean(count: usize, has_clean: bool) -> bool
+    ensures { result ≡ (if count == 0 then false else has_clean) }
+{
+    if count == 0 { false } else { has_clean }
 }
 
 impl VersionList<Value> {

@@ -1,6 +1,6 @@
 -- A strong reply of a running store is that of a single copy, between its request and itself.
 use Rattle.std.proofs.Common.{◌≡◌, ◌<◌, ◌≤◌, ℕ, zero, suc, ◌+◌, ◌-◌, Bool, true, false, List, [], ◌∷◌, map, length, filter, Option, Some, refl, sym, ap, subst, arith, ◌∙◌, inl, inr}
-use Rattle.std.specs.Prelude.{option_and_then, take}
+use Rattle.std.specs.Prelude.{Contains, option_and_then, take}
 use Rattle.std.specs.List.{AllZip, IsDistinct}
 use Rattle.std.proofs.lemmas.Bool.{cond_both}
 use mathlib.Core.List.{IsPrefix}
@@ -12,12 +12,13 @@ use Rattle.craq_model.specs.declared.ask.Answer.TheVariants as answers
 use Rattle.craq_model.specs.declared.ask.Ask.{Ask}
 use Rattle.craq_model.specs.declared.ask.Ask.TheVariants as asks
 use Rattle.craq_runs.specs.declared.explanation.Explanation.{Explanation}
+use Rattle.craq_runs.specs.declared.explanation.Place.{Place}
 use Rattle.craq_runs.specs.declared.run.Run.{Run}
 use Rattle.craq_runs.specs.Seen.{Asked, Answered, Seen, ask_of, is_strong_answer, is_strong_ask, seen, strong_answers}
-use Rattle.craq_runs.specs.Valid.{IsExplained, IsSaid, IsValid, OnlyGrows, ReadAnswer, committed_after, committed_before, look_by, look_of, same_name, state_at}
+use Rattle.craq_runs.specs.Valid.{IsExplained, IsSaid, IsValid, OnlyGrows, ReadAnswer, answer_name, committed_after, committed_before, look_by, look_of, place_name, same_name, state_at}
 use Rattle.craq_seat.specs.Calls.{Called}
 use Rattle.craq_seat.specs.Merge.{MergedStep}
-use Rattle.craq_causality.proofs.Orders.{IsIn, from_contains}
+use Rattle.craq_causality.proofs.Orders.{IsIn, from_contains, to_contains}
 use Rattle.craq_causality.proofs.Walk.{taken_among}
 use Rattle.craq_store_history.specs.declared.entry.Entry.{Entry}
 use Rattle.craq_store_history.specs.Entries.{lines_in, members_in}
@@ -35,11 +36,27 @@ passes {X} test (y ∷ ys) x (inl e) h =
 passes {X} test (y ∷ ys) x (inr i) h =
     cond_both (test y) (y ∷ filter test ys) (filter test ys) (λ (zs : List X). IsIn zs x) (λ b. inr (passes test ys x i h)) (λ b. passes test ys x i h)
 
-zipped : {A B : Type 0} (R : A → B → Type 0) (xs : List A) (ys : List B) (x : A) → AllZip R xs ys → IsIn xs x → (y : B) × R x y
-zipped R [] ys x z i = absurd i
-zipped R (a ∷ xs) [] x z i = absurd z
-zipped {A} {B} R (a ∷ xs) (b ∷ ys) x z (inl e) = (b, subst (λ (w : A). R w b) e z.0)
-zipped R (a ∷ xs) (b ∷ ys) x z (inr i) = zipped R xs ys x z.1 i
+-- an item of the second list that stands beside one of the first, with its name
+record IsBeside {A B N : Type 0} (R : A → B → Type 0) (f : A → N) (g : B → N) (x : A) (ys : List B) : Type 0 where
+  pub which : B
+  pub there : IsIn ys which
+  pub holds : R x which
+  pub named : g which ≡ f x
+
+head_name : {N : Type 0} (m n : N) (ms ns : List N) → m ∷ ms ≡ n ∷ ns → m ≡ n
+head_name m n ms ns h = cc
+
+tail_names : {N : Type 0} (m n : N) (ms ns : List N) → m ∷ ms ≡ n ∷ ns → ms ≡ ns
+tail_names m n ms ns h = cc
+
+zipped : {A B N : Type 0} (R : A → B → Type 0) (f : A → N) (g : B → N) (xs : List A) (ys : List B) (x : A) → AllZip R xs ys → map g ys ≡ map f xs → IsIn xs x → IsBeside R f g x ys
+zipped R f g [] ys x z m i = absurd i
+zipped R f g (a ∷ xs) [] x z m i = absurd z
+zipped {A} {B} R f g (a ∷ xs) (b ∷ ys) x z m (inl e) =
+    record { which = b; there = inl refl; holds = subst (λ (w : A). R w b) e z.0; named = head_name (g b) (f a) (map g ys) (map f xs) m ∙ ap f e }
+zipped R f g (a ∷ xs) (b ∷ ys) x z m (inr i) =
+    let t = zipped R f g xs ys x z.1 (tail_names (g b) (f a) (map g ys) (map f xs) m) i in
+    record { which = t.which; there = inr t.there; holds = t.holds; named = t.named }
 
 -- ---- the place of a strong reply
 
@@ -57,9 +74,19 @@ request node ask receipt move = record { move = move; node = node.node; ticket =
 abbrev reply : NodeName → Called → ℕ → Answered
 reply node receipt move = record { move = move; node = node.node; ticket = receipt.call.ticket; answer = receipt.answer }
 
+abbrev point : ℕ → ℕ → ℕ → Place
+point node ticket position = record { node = node; ticket = ticket; position = position }
+
+is_named : (p : Place) (node ticket : ℕ) → place_name p ≡ (node, ticket) → p ≡ point node ticket p.position
+is_named p node ticket h =
+    let of_node : p.node ≡ node = ap (λ (n : ℕ × ℕ). n.0) h in
+    let of_ticket : p.ticket ≡ ticket = ap (λ (n : ℕ × ℕ). n.1) h in
+    rw (of_node, of_ticket) refl
+
 -- the place of a strong reply in an explanation
 pub record HasPlace (node : NodeName) (ask : Ask) (receipt : Called) (asked answered : ℕ) (s : Seen) (e : Explanation) : Type 0 where
   pub position : ℕ
+  pub there : Contains e.places (point node.node receipt.call.ticket position)
   pub in_order : asked ≤ answered
   pub not_before : committed_before e asked ≤ position
   pub not_beyond : position ≤ committed_after e answered
@@ -73,14 +100,15 @@ placed node ask receipt asked answered run e c v strong =
     let r : Asked = request node ask receipt asked in
     let test : Answered → Bool = λ x. is_strong_answer (ask_of s.asks x) x.answer in
     let is : test a ≡ true = subst (λ (o : Option Asked). is_strong_answer o receipt.answer ≡ true) (sym c.is_ask) strong in
-    let p = zipped (IsExplained s e) (filter test s.answers) e.places a v.checked.strong.explained (passes test s.answers a (from_contains s.answers a c.is_answer) is) in
-    let same : p.1.ask ≡ r = same_some p.1.ask r (ask_of s.asks a) p.1.is_ask c.is_ask in
+    let p = zipped (IsExplained s e) answer_name place_name (filter test s.answers) e.places a v.checked.strong.explained v.checked.form.places (passes test s.answers a (from_contains s.answers a c.is_answer) is) in
+    let same : p.holds.ask ≡ r = same_some p.holds.ask r (ask_of s.asks a) p.holds.is_ask c.is_ask in
     record {
-      position = p.0.position;
-      in_order = subst (λ (x : Asked). x.move ≤ answered) same p.1.asked_first;
-      not_before = subst (λ (x : Asked). committed_before e x.move ≤ p.0.position) same p.1.not_before;
-      not_beyond = p.1.not_beyond;
-      is_said = subst (λ (x : Asked). IsSaid (state_at s e p.0.position) x.ask receipt.answer) same p.1.is_said;
+      position = p.which.position;
+      there = subst (λ (x : Place). Contains e.places x) (is_named p.which node.node receipt.call.ticket p.named) (to_contains e.places p.which p.there);
+      in_order = subst (λ (x : Asked). x.move ≤ answered) same p.holds.asked_first;
+      not_before = subst (λ (x : Asked). committed_before e x.move ≤ p.which.position) same p.holds.not_before;
+      not_beyond = p.holds.not_beyond;
+      is_said = subst (λ (x : Asked). IsSaid (state_at s e p.which.position) x.ask receipt.answer) same p.holds.is_said;
     }
 
 same_members : (o : Option (List ℕ)) (xs ys : List ℕ) → o ≡ Some xs → o ≡ Some ys → xs ≡ ys
@@ -115,6 +143,7 @@ from_place : (o : Operation) (members : List ℕ) (log : List Entry) (m : HasMov
 from_place o members log m p = record {
   moves = m;
   position = p.position;
+  is_point = p.there;
   not_before = p.not_before;
   not_beyond = p.not_beyond;
   is_said = subst (λ (x : Answer). IsSaid (after (take p.position (updates_of_chain o.node.chain members log))) o.ask x) m.is_answer p.is_said;
@@ -193,23 +222,30 @@ as_many : (all lines : List MergedStep) → length (map (taken_among all) lines)
 as_many all [] = refl
 as_many all (l ∷ lines) = ap suc (as_many all lines)
 
-pub no_older : (o next : Operation) (members : List ℕ) (log : List Entry) → HasChain o.node.chain members log → next.node.chain ≡ o.node.chain
-    → (first : AnswersAsOneCopy o members log) (second : AnswersAsOneCopy next members log) → IsPrefix o.new next.old → IsPrefix next.new log → first.position ≤ second.position
-no_older o next members log h same first second p q =
+-- a reply comes before a request, so its prefix is no longer
+pub ordered : (o next : Operation) (members : List ℕ) (log : List Entry) → HasChain o.node.chain members log → next.node.chain ≡ o.node.chain
+    → (first : AnswersAsOneCopy o members log) (second : AnswersAsOneCopy next members log) → IsPrefix next.new log → first.moves.answered < second.moves.asked → first.position ≤ second.position
+ordered o next members log h same first second q less =
     let chain : ℕ = o.node.chain in
     let e : Explanation = explanation_of_chain chain members log in
     let s : Seen = view_of_chain chain members log in
     let v : IsValid (run_in chain members log) e = is_explained chain members log h in
     let many : s.moves ≡ length (lines_in chain log) = as_many (lines_in chain log) (lines_in chain log) in
-    let upto : length (lines_in chain o.new) ≤ length (lines_in chain next.old) = no_longer (lines_in chain o.new) (lines_in chain next.old) (lines_prefix chain o.new next.old p) in
     let within : length (lines_in chain next.new) ≤ length (lines_in chain log) = no_longer (lines_in chain next.new) (lines_in chain log) (lines_prefix chain next.new log q) in
     let asked : ℕ = second.moves.asked in
-    let earlier = first.moves.by_then in
-    let later : length (lines_in chain next.old) < asked = subst (λ (c : ℕ). length (lines_in c next.old) < asked) same second.moves.later in
-    let ordered = second.moves.is_call.in_order in
+    let in_turn = second.moves.is_call.in_order in
     let then_too : second.moves.answered ≤ length (lines_in chain next.new) = subst (λ (c : ℕ). second.moves.answered ≤ length (lines_in c next.new)) same second.moves.by_then in
     let low = first.not_beyond in
     let high : committed_before e asked ≤ second.position = subst (λ (c : ℕ). committed_before (explanation_of_chain c members log) asked ≤ second.position) same second.not_before in
     let mid : committed_after e first.moves.answered ≤ committed_after e (asked - 1) =
-    grown_to s e first.moves.answered (asked - 1) v.checked.list (omega (arith, upto, earlier, later)) (omega (arith, many, within, ordered, then_too)) in
+    grown_to s e first.moves.answered (asked - 1) v.checked.list (omega (arith, less)) (omega (arith, many, within, in_turn, then_too)) in
     omega (arith, low, mid, high)
+
+pub no_older : (o next : Operation) (members : List ℕ) (log : List Entry) → HasChain o.node.chain members log → next.node.chain ≡ o.node.chain
+    → (first : AnswersAsOneCopy o members log) (second : AnswersAsOneCopy next members log) → IsPrefix o.new next.old → IsPrefix next.new log → first.position ≤ second.position
+no_older o next members log h same first second p q =
+    let chain : ℕ = o.node.chain in
+    let upto : length (lines_in chain o.new) ≤ length (lines_in chain next.old) = no_longer (lines_in chain o.new) (lines_in chain next.old) (lines_prefix chain o.new next.old p) in
+    let earlier = first.moves.by_then in
+    let later : length (lines_in chain next.old) < second.moves.asked = subst (λ (c : ℕ). length (lines_in c next.old) < second.moves.asked) same second.moves.later in
+    ordered o next members log h same first second q (omega (arith, upto, earlier, later))

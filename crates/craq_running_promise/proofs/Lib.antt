@@ -1,3 +1,4 @@
+mod Asked
 mod Copies
 mod Growing
 mod Orders

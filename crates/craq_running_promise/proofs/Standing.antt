@@ -50,7 +50,7 @@ split xs x c = split_in xs x (from_contains xs x c)
 prefix_of : {X : Type 0} (xs ys zs : List X) → IsPrefix xs ys → IsPrefix ys zs → IsPrefix xs zs
 prefix_of xs ys zs p q = (p.0 ++ q.0, sym (append_assoc xs p.0 q.0) ∙ (ap (λ l. l ++ q.0) p.1 ∙ q.1))
 
-in_prefix : {X : Type 0} (xs ys : List X) (x : X) → IsPrefix xs ys → Contains xs x → Contains ys x
+pub in_prefix : {X : Type 0} (xs ys : List X) (x : X) → IsPrefix xs ys → Contains xs x → Contains ys x
 in_prefix {X} xs ys x p c = subst (λ (l : List X). Contains l x) p.1 (to_contains (xs ++ p.0) x (in_left xs p.0 x (from_contains xs x c)))
 
 in_here : {X : Type 0} (before : List X) (x : X) (rest : List X) → Contains (before ++ x ∷ rest) x
@@ -189,6 +189,12 @@ together client other old new before after node at ask request answer reply rece
     (after, v.history, p, whole after, (stands client old new after node ask answer receipt w p v.history).0, (stands other before after after at request reply its v (whole after) v.history).0)
 together client other old new before after node at ask request answer reply receipt its w v (inr p) =
     (new, w.history, whole new, p, (stands client old new new node ask answer receipt w (whole new) w.history).0, (stands other before after new at request reply its v p w.history).0)
+
+-- the histories that two clients have seen begin one history
+pub in_one : (client other : ℕ) (old new before after : List Entry) (node at : NodeName) (ask request : Ask) (answer reply : Answer) (receipt its : Called)
+    → IsWitnessed client old node ask answer receipt new → IsWitnessed other before at request reply its after → AreComparable new after → (log : List Entry) × IsHistory log × IsPrefix new log × IsPrefix after log
+in_one client other old new before after node at ask request answer reply receipt its w v (inl p) = (after, v.history, p, whole after)
+in_one client other old new before after node at ask request answer reply receipt its w v (inr p) = (new, w.history, whole new, p)
 
 pub has_explanation : (log : List Entry) (chain : ℕ) (members : List ℕ) → IsHistory log → members_in chain log ≡ Some members → AreFew (lines_in chain log)
     → IsTypedRunOf chain (run_of members (lines_in chain log)) × IsValid (run_of members (lines_in chain log)) (explain chain (run_of members (lines_in chain log)))

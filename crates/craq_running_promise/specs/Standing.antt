@@ -8,17 +8,20 @@ use Rattle.craq_commands.specs.SingleCopy.{after}
 use Rattle.craq_names.specs.declared.name.NodeName.{NodeName}
 use Rattle.craq_model.specs.declared.ask.Answer.{Answer}
 use Rattle.craq_model.specs.declared.ask.Ask.{Ask}
+use Rattle.craq_model.specs.declared.ask.Ask.TheVariants as asks
 use Rattle.craq_model.specs.declared.ask.Event.TheVariants as events
 use Rattle.craq_model.specs.declared.step.Out.TheVariants as outs
 use Rattle.craq_runs.specs.declared.explanation.Explanation.{Explanation}
+use Rattle.craq_runs.specs.declared.explanation.Place.{Place}
 use Rattle.craq_runs.specs.declared.run.Run.{Run}
 use Rattle.craq_runs.specs.Explain.{explain}
 use Rattle.craq_runs.specs.Seen.{Answered, Asked, Seen, ask_with, seen}
 use Rattle.craq_runs.specs.Valid.{IsSaid, LookHolds, ReadAnswer, committed, committed_after, committed_before, look_by}
 use Rattle.craq_seat.specs.Calls.{Called}
 use Rattle.craq_seat.specs.Merge.{AtNode, MergedStep, run_of}
+use Rattle.craq_store_history.specs.declared.entry.CallId.{CallId}
 use Rattle.craq_store_history.specs.declared.entry.Entry.{Entry}
-use Rattle.craq_store_history.specs.Chains.{IsHistory}
+use Rattle.craq_store_history.specs.Chains.{IsHistory, WasCalled}
 use Rattle.craq_store_history.specs.Entries.{lines_in, members_in}
 use Rattle.craq_store_parts.specs.Witnessed.{IsWitnessed}
 use Rattle.craq_updates.specs.ValidEntries.{IsBeginning}
@@ -92,6 +95,13 @@ explanation_of_chain chain members log = explain chain (run_in chain members log
 abbrev pub updates_of_chain : ℕ → List ℕ → List Entry → List Update
 updates_of_chain chain members log = committed (view_of_chain chain members log) (explanation_of_chain chain members log)
 
+-- in this history a client made a call of this update, at a node of the chain
+pub record WasAsked (chain : ℕ) (log : List Entry) (update : Update) : Type 0 where
+  pub node : NodeName
+  pub call : CallId
+  pub of_chain : node.chain ≡ chain
+  pub made : WasCalled log call node (asks.Update update)
+
 -- the request of an operation is the move `asked` of its chain's run, and its reply is given in the
 -- move `answered`. The node accepted this very call under the receipt's ticket (`IsWitnessed`), so
 -- `is_call` ties the numbers to this request and to this reply. The request follows all moves that
@@ -104,11 +114,17 @@ pub record HasMoves (o : Operation) (members : List ℕ) (log : List Entry) : Ty
   pub later : length (lines_in o.node.chain o.old) < asked
   pub by_then : answered ≤ length (lines_in o.node.chain o.new)
 
+-- the linearization point of an operation's reply: after this many updates
+abbrev pub point_at : Operation → ℕ → Place
+point_at o position = record { node = o.node.node; ticket = o.receipt.call.ticket; position = position }
+
 -- a single copy gives this reply after the first `position` updates of the chain's list: after all
--- that were committed before the request, and none that were not committed when the reply was given
+-- that were committed before the request, and none that were not committed when the reply was given.
+-- The explanation has this point for the reply
 pub record AnswersAsOneCopy (o : Operation) (members : List ℕ) (log : List Entry) : Type 0 where
   pub moves : HasMoves o members log
   pub position : ℕ
+  pub is_point : Contains (explanation_of_chain o.node.chain members log).places (point_at o position)
   pub not_before : committed_before (explanation_of_chain o.node.chain members log) moves.asked ≤ position
   pub not_beyond : position ≤ committed_after (explanation_of_chain o.node.chain members log) moves.answered
   pub is_said : IsSaid (after (take position (updates_of_chain o.node.chain members log))) o.ask o.answer

@@ -4,9 +4,10 @@
 //! States laws: functions without bodies, whose contracts are the theorems.
 #![tactic(auto)]
 
-ghost use Rattle.std.specs.Prelude.{◌≡◌, ◌≤◌, ℕ, suc, false, true, List, Some};
+ghost use Rattle.std.specs.Prelude.{◌≡◌, ◌<◌, ◌≤◌, ℕ, suc, false, true, List, Some, Contains};
 ghost use Rattle.std.specs.List.{IsDistinct};
 ghost use mathlib.Core.List.{IsPrefix};
+ghost use Rattle.craq_commands.specs.declared.command.Update.{Update};
 ghost use Rattle.craq_names.specs.declared.name.NodeName.{NodeName};
 ghost use Rattle.craq_model.specs.declared.ask.Answer.{Answer};
 ghost use Rattle.craq_model.specs.declared.ask.Ask.{Ask};
@@ -22,7 +23,7 @@ ghost use Rattle.craq_store_history.specs.declared.entry.Entry.{Entry};
 ghost use Rattle.craq_store_history.specs.Chains.{IsHistory};
 ghost use Rattle.craq_store_history.specs.Entries.{lines_in, members_in};
 ghost use Rattle.craq_store_parts.specs.Witnessed.{IsWitnessed};
-ghost use Rattle.craq_running_promise.specs.Standing.{AnswersAsOneCopy, AnswersByMode, HasChain, IsCallInRun, IsOperationOf, ListGrows, Operation, IsCallInHistory, explanation_of_chain, run_in, view_of_chain};
+ghost use Rattle.craq_running_promise.specs.Standing.{AnswersAsOneCopy, AnswersByMode, HasChain, IsCallInRun, IsOperationOf, ListGrows, Operation, IsCallInHistory, WasAsked, explanation_of_chain, run_in, updates_of_chain, view_of_chain};
 
 /// States that lines in causal order, with each request of its type, have a valid explanation: the
 /// one of `explain`, with one growing list of updates and no request number twice. Each strong
@@ -61,18 +62,25 @@ pub fn witnessed_calls_are_explained()
 /// its chain. Each strong reply, to an update or to a strong read, is that of a single copy after a
 /// prefix of the list. An operation is a call with its reply, as `Client::call` ensures it.
 ///
-/// - `one_copy`: in each later history of the store, a single copy that has taken a prefix of the
-///   chain's list of updates gives this strong reply. The prefix has all updates that were committed
-///   before the request, and none that was not committed when the reply was given. The request
-///   follows all that the client had seen before its call.
-/// - `in_order`: the prefix of a strong operation is no shorter than that of one whose history its
-///   client had seen before. So the operations of one client are in order, and so are those of two
-///   clients of which one has seen what the other saw.
+/// - `one_copy`: take each history that goes on from what the client has seen. There a single copy
+///   that has taken a prefix of the chain's list gives this strong reply; to an update, the reply
+///   that it keeps for the update's client and number. The prefix has all updates that were
+///   committed before the request, and none that was not committed when the reply was given. Its
+///   length is the linearization point of this reply. The request follows all that the client had
+///   seen before its call.
+/// - `in_run_order`: a strong reply that comes before a request in the run has no longer a prefix
+///   than the request's strong reply, of whatever clients they are.
+/// - `in_order`: neither has one that the request's client had seen before its call. So the strong
+///   operations of one client are in order, and so are those of two clients of which one has seen
+///   what the other saw.
+/// - `together`: the histories that two clients have seen begin one history, if one of them begins
+///   the other (`Client::compare`).
 /// - `eventual`: each other reply is to an eventual or a bounded read, and meets the guarantee of its
 ///   mode. An eventual reply is the object after a list of requested updates that begins with the
 ///   committed ones. A bounded reply is the object after a prefix of such a list, at most its bound
 ///   above the committed version. `IsEventual` and `IsBounded` say how old a reply may be beside
 ///   earlier ones of its node.
+/// - `asked`: a client made a call of each update of the list, at a node of the chain.
 /// - `once`: no request number stands in the list twice. Each update was requested before it was
 ///   committed; the commit index never falls, and ends at the length of the list.
 /// - `one_reply`: no request has two strong replies.
@@ -81,10 +89,15 @@ pub fn witnessed_calls_are_explained()
 pub fn strong_replies_are_of_one_copy()
     ensures one_copy { (client : ℕ) (o : Operation) (members : List ℕ) (log : List Entry) → IsOperationOf client o → IsPrefix o.new log → HasChain o.node.chain members log → is_strong_ask o.ask ≡ true
         → AnswersAsOneCopy o members log }
+    ensures in_run_order { (o next : Operation) (members : List ℕ) (log : List Entry) → HasChain o.node.chain members log → next.node.chain ≡ o.node.chain
+        → (first : AnswersAsOneCopy o members log) (second : AnswersAsOneCopy next members log) → IsPrefix next.new log → first.moves.answered < second.moves.asked → first.position ≤ second.position }
     ensures in_order { (o next : Operation) (members : List ℕ) (log : List Entry) → HasChain o.node.chain members log → next.node.chain ≡ o.node.chain
         → (first : AnswersAsOneCopy o members log) (second : AnswersAsOneCopy next members log) → IsPrefix o.new next.old → IsPrefix next.new log → first.position ≤ second.position }
+    ensures together { (client other : ℕ) (o next : Operation) → IsOperationOf client o → IsOperationOf other next → AreComparable o.new next.new
+        → (log : List Entry) × IsHistory log × IsPrefix o.new log × IsPrefix next.new log }
     ensures eventual { (client : ℕ) (o : Operation) (members : List ℕ) (log : List Entry) → IsOperationOf client o → IsPrefix o.new log → HasChain o.node.chain members log → is_strong_ask o.ask ≡ false
         → AnswersByMode o members log }
+    ensures asked { (chain : ℕ) (members : List ℕ) (log : List Entry) (update : Update) → HasChain chain members log → Contains (updates_of_chain chain members log) update → WasAsked chain log update }
     ensures once { (chain : ℕ) (members : List ℕ) (log : List Entry) → HasChain chain members log → OnlyGrows (view_of_chain chain members log) (explanation_of_chain chain members log) }
     ensures one_reply { (chain : ℕ) (members : List ℕ) (log : List Entry) → HasChain chain members log → IsDistinct same_name (strong_answers (view_of_chain chain members log)) }
     ensures grows { (chain : ℕ) (members : List ℕ) (log more : List Entry) → HasChain chain members log → HasChain chain members more → IsPrefix log more → ListGrows chain members log more }

@@ -103,6 +103,14 @@ impl CallReceipt {
     }
 }
 
+/// A step that was taken, with its receipt and the pass that came with its event.
+#[derive(Clone, Copy)]
+pub(crate) struct TakenStep<'a> {
+    pub step: &'a Step,
+    pub receipt: &'a Receipt,
+    pub pass: Pass,
+}
+
 /// Copies the request of an event, if it is one. Fails only when out of memory.
 pub(crate) fn ask_of(alloc: Global, event: &Event) -> Result<Option<Ask>, AllocError>
     ensures { IfOk result (λ ask. ask ≡ ask_of event.now) }
@@ -233,19 +241,20 @@ fn call_for(
     }
 }
 
-/// Appends the receipt of the call that an output answers, if one waits for it.
+/// Appends the receipt of the call that an output answers, if one waits for it. The output comes
+/// with those after it.
 fn answer_call(
     alloc: Global,
     waiting: &mut TicketQueue<Call>,
-    out: &Out,
-    later: &[Out],
+    next: (&Out, &[Out]),
     answered: &Receipt,
     receipts: &mut Vec<CallReceipt>,
 ) -> Result<(), AllocError>
-    requires { IsEncodableOut out.now }
-    ensures receipts { OnOk result (receipts.new.items ≡ receipts.old.items ++ called_by waiting.old.items answered.now out.now) }
-    ensures others { waiting.new.items ≡ left_by waiting.old.items out.now later.now }
+    requires { IsEncodableOut next.0.now }
+    ensures receipts { OnOk result (receipts.new.items ≡ receipts.old.items ++ called_by waiting.old.items answered.now next.entry.0.now) }
+    ensures others { waiting.new.items ≡ left_by waiting.old.items next.entry.0.now next.entry.1.now }
 {
+    let (out, later) = next;
     let Out::Answer { ticket, answer } = out else {
         return Ok(());
     };
@@ -273,7 +282,7 @@ fn take_answered(
     }
     let mut rest = outs;
     while let Some((out, later)) = rest.split_first() {
-        answer_call(alloc, waiting, out, later, answered, &mut receipts)?;
+        answer_call(alloc, waiting, (out, later), answered, &mut receipts)?;
         rest = later;
     }
     Ok(receipts)
@@ -323,24 +332,22 @@ fn forget_answered(waiting: &mut TicketQueue<Call>, outs: &[Out])
 fn accept(
     waiting: &mut TicketQueue<Call>,
     asked: Option<Ask>,
-    ticket: Option<Ticket>,
-    receipt: Receipt,
-    pass: Pass,
+    taken: &TakenStep<'_>,
 ) -> Result<(), AllocError>
-    ensures ok { OnOk result (waiting.new.items ≡ waiting.old.items ++ accepted asked ticket receipt pass) }
+    ensures ok { OnOk result (waiting.new.items ≡ waiting.old.items ++ accepted asked taken.now.step.now.ticket taken.now.receipt.now taken.now.pass) }
     ensures err { OnErr result (waiting.new.items ≡ waiting.old.items) }
 {
     let Some(ask) = asked else {
         return Ok(());
     };
-    let Some(ticket) = ticket else {
+    let Some(ticket) = taken.step.ticket else {
         drop(ask);
         return Ok(());
     };
     waiting.push(Call {
-        asked: receipt,
+        asked: *taken.receipt,
         ticket,
-        pass,
+        pass: taken.pass,
         ask,
     })?;
     Ok(())
@@ -352,18 +359,16 @@ fn answer_calls(
     alloc: Global,
     waiting: &mut TicketQueue<Call>,
     asked: Option<Ask>,
-    receipt: &Receipt,
-    pass: Pass,
-    step: &Step,
+    taken: &TakenStep<'_>,
 ) -> Result<Vec<CallReceipt>, AllocError>
-    requires { AreEncodable step.now.outs }
-    ensures receipts { IfOk result (λ receipts. receipts.items ≡ called_in (waiting.old.items ++ accepted asked step.now.ticket receipt.now pass) receipt.now step.now.outs) }
-    ensures ok { OnOk result (waiting.new.items ≡ waiting.old.items ++ accepted asked step.now.ticket receipt.now pass) }
+    requires { AreEncodable taken.now.step.now.outs }
+    ensures receipts { IfOk result (λ receipts. receipts.items ≡ called_in (waiting.old.items ++ accepted asked taken.now.step.now.ticket taken.now.receipt.now taken.now.pass) taken.now.receipt.now taken.now.step.now.outs) }
+    ensures ok { OnOk result (waiting.new.items ≡ waiting.old.items ++ accepted asked taken.now.step.now.ticket taken.now.receipt.now taken.now.pass) }
     ensures err { OnErr result (waiting.new.items ≡ waiting.old.items) }
 {
     let before = waiting.len();
-    accept(waiting, asked, step.ticket, *receipt, pass)?;
-    let receipts = called_in(alloc, waiting, step.outs.as_slice(), *receipt);
+    accept(waiting, asked, taken)?;
+    let receipts = called_in(alloc, waiting, taken.step.outs.as_slice(), *taken.receipt);
     if receipts.is_err() {
         waiting.truncate(before);
     }
@@ -392,29 +397,27 @@ fn own_answer<'a>(waiting: &TicketQueue<Call>, step: &'a Step) -> Option<&'a Ans
 fn answer_own(
     alloc: Global,
     asked: Option<Ask>,
-    ticket: Option<Ticket>,
+    taken: &TakenStep<'_>,
     answer: &Answer,
-    receipt: &Receipt,
-    pass: Pass,
 ) -> Result<Vec<CallReceipt>, AllocError>
     requires { IsEncodableAnswer answer.now }
-    ensures { IfOk result (λ receipts. receipts.items ≡ all_answered (accepted asked ticket receipt.now pass) receipt.now answer.now) }
+    ensures { IfOk result (λ receipts. receipts.items ≡ all_answered (accepted asked taken.now.step.now.ticket taken.now.receipt.now taken.now.pass) taken.now.receipt.now answer.now) }
 {
     let Some(ask) = asked else {
         return Ok(Vec::new(alloc));
     };
-    let Some(ticket) = ticket else {
+    let Some(ticket) = taken.step.ticket else {
         drop(ask);
         return Ok(Vec::new(alloc));
     };
     let call = Call {
-        asked: *receipt,
+        asked: *taken.receipt,
         ticket,
-        pass,
+        pass: taken.pass,
         ask,
     };
     let mut receipts = Vec::new(alloc);
-    match add_answered(&mut receipts, alloc, call, receipt, answer) {
+    match add_answered(&mut receipts, alloc, call, taken.receipt, answer) {
         Ok(()) => Ok(receipts),
         Err(error) => {
             drop(receipts);
@@ -445,23 +448,21 @@ fn serve_accepted(
     alloc: Global,
     waiting: &mut TicketQueue<Call>,
     asked: Result<Option<Ask>, AllocError>,
-    receipt: &Receipt,
-    pass: Pass,
-    step: &Step,
+    taken: &TakenStep<'_>,
 ) -> Result<Vec<CallReceipt>, AllocError>
-    requires { AreEncodable step.now.outs }
-    ensures { ServesAsked waiting.old.items waiting.new.items asked step.now.ticket receipt.now pass step.now.outs result }
+    requires { AreEncodable taken.now.step.now.outs }
+    ensures { ServesAsked waiting.old.items waiting.new.items asked taken.now.step.now.ticket taken.now.receipt.now taken.now.pass taken.now.step.now.outs result }
 {
     match asked {
         Err(_) => {
-            forget_answered(waiting, step.outs.as_slice());
+            forget_answered(waiting, taken.step.outs.as_slice());
             Err(AllocError)
         }
-        Ok(asked) => match own_answer(waiting, step) {
-            Some(answer) => answer_own(alloc, asked, step.ticket, answer, receipt, pass),
+        Ok(asked) => match own_answer(waiting, taken.step) {
+            Some(answer) => answer_own(alloc, asked, taken, answer),
             None => {
-                let calls = answer_calls(alloc, waiting, asked, receipt, pass, step);
-                forget_answered(waiting, step.outs.as_slice());
+                let calls = answer_calls(alloc, waiting, asked, taken);
+                forget_answered(waiting, taken.step.outs.as_slice());
                 calls
             }
         },
@@ -475,15 +476,13 @@ pub(crate) fn serve_calls(
     alloc: Global,
     waiting: &mut TicketQueue<Call>,
     asked: Result<Option<Ask>, AllocError>,
-    receipt: &Receipt,
-    pass: Pass,
-    step: &Step,
+    taken: &TakenStep<'_>,
 ) -> Result<Vec<CallReceipt>, AllocError>
-    requires { AreEncodable step.now.outs }
-    ensures { ServesAsked waiting.old.items waiting.new.items asked step.now.ticket receipt.now pass step.now.outs result }
+    requires { AreEncodable taken.now.step.now.outs }
+    ensures { ServesAsked waiting.old.items waiting.new.items asked taken.now.step.now.ticket taken.now.receipt.now taken.now.pass taken.now.step.now.outs result }
 {
     match asked {
-        Ok(None) => serve_waiting(alloc, waiting, receipt, step.outs.as_slice()),
-        asked => serve_accepted(alloc, waiting, asked, receipt, pass, step),
+        Ok(None) => serve_waiting(alloc, waiting, taken.receipt, taken.step.outs.as_slice()),
+        asked => serve_accepted(alloc, waiting, asked, taken),
     }
 }

@@ -9,7 +9,7 @@ ghost use Rattle.craq_seat.specs.Kept.{IsKept};
 ghost use Rattle.craq_seat.specs.Stamps.{event_stamp, next_stamp};
 ghost use Rattle.craq_seat.specs.Taken.{TakesEvent};
 
-use crate::calls::{ask_of, serve_calls};
+use crate::calls::{TakenStep, ask_of, serve_calls};
 use crate::{Call, CallReceipt, Cell, Receipt, TicketQueue};
 use craq_model::Event;
 use craq_names::{Pass, Refusal};
@@ -81,7 +81,12 @@ impl<C: Core> Desk<C> {
                     Ok((receipt, Ok(Vec::new(alloc))))
                 }
                 Some(step) => {
-                    let calls = serve_calls(alloc, &mut self.waiting, asked, &receipt, pass, step);
+                    let taken = TakenStep {
+                        step,
+                        receipt: &receipt,
+                        pass,
+                    };
+                    let calls = serve_calls(alloc, &mut self.waiting, asked, &taken);
                     Ok((receipt, calls))
                 }
             },

@@ -118,6 +118,8 @@ def behind_a_stopped_node(checks, craqd):
         checks.same("a server with updates behind a stopped tail", (status, out), (0, "audit merged 0\naudit merged 0\n"))
         limit = GRACE_SECONDS + END_SECONDS + SLACK_SECONDS
         checks.that(took < limit, f"a server with updates behind a stopped tail ends within {limit} s, and took {took:.1f} s")
+        told = example.replies_of(reply(made[0]))
+        checks.same("the update that waited is refused", [it.number for _, it in told], [example.STOPPED])
         made[0].close()
 
 

@@ -34,8 +34,12 @@ use std::time::Duration;
 /// that are ending, in milliseconds.
 const PAUSE_MILLISECONDS: u64 = 10;
 
-/// The number of such pauses that open connections get once the listener has failed: 5 seconds.
-const GRACE_PAUSES: u32 = 500;
+/// The number of such pauses in which requests are answered once the listener has failed: 4.5
+/// seconds.
+const REPLY_PAUSES: u32 = 450;
+
+/// The number of such pauses from then until open connections are cut: half a second.
+const LAST_PAUSES: u32 = 50;
 
 /// The way in which connections are served.
 #[derive(Clone, Copy, Debug)]
@@ -182,16 +186,24 @@ where
     }
 
     /// Ends the connections that are open once the listener has failed: what they brought before is
-    /// still answered, and those that are open 5 seconds later are cut.
+    /// still answered, 4.5 seconds later what waits is refused, and those that are open half a
+    /// second after that are cut.
     pub(crate) fn end_open(&self) {
         self.connections.end(&self.rt);
-        for _pause in 0..GRACE_PAUSES {
+        self.wait_for_idle(REPLY_PAUSES);
+        self.connections.time_out(&self.rt);
+        self.wait_for_idle(LAST_PAUSES);
+        self.connections.cut(&self.rt);
+    }
+
+    /// Waits until no connection is open, for at most this many pauses.
+    fn wait_for_idle(&self, pauses: u32) {
+        for _pause in 0..pauses {
             if self.connections.is_idle(&self.rt) {
                 break;
             }
             thread::sleep(&self.rt, Duration::from_millis(PAUSE_MILLISECONDS));
         }
-        self.connections.cut(&self.rt);
     }
 
     /// Makes room for a new connection's receipts, where they are kept, and returns its index.

@@ -13,8 +13,8 @@ struct Progress {
     has_begun: bool,
     /// True where it is to end.
     is_ending: bool,
-    /// True where its connections were cut.
-    is_cut: bool,
+    /// True where requests that still wait are to be refused.
+    has_timed_out: bool,
     /// True where it takes no more connections and all are over.
     is_over: bool,
 }
@@ -43,7 +43,7 @@ impl Connections {
             progress: Mutex::new(Progress {
                 has_begun: false,
                 is_ending: false,
-                is_cut: false,
+                has_timed_out: false,
                 is_over: false,
             }),
             changed: Condvar::new(),
@@ -63,9 +63,9 @@ impl Connections {
         self.progress.lock(rt).is_ending
     }
 
-    /// Returns whether the connections were cut (`cut`).
-    pub fn is_cut<R: Wait>(&self, rt: &R) -> bool {
-        self.progress.lock(rt).is_cut
+    /// Returns whether requests that still wait are to be refused (`time_out`).
+    pub fn has_timed_out<R: Wait>(&self, rt: &R) -> bool {
+        self.progress.lock(rt).has_timed_out
     }
 
     /// Notes that the server has all that it needs and takes connections in from now on.
@@ -139,10 +139,16 @@ impl Connections {
         self.shut_all(rt, Shutdown::Read);
     }
 
+    /// Notes that requests which still wait, as behind a stopped node, are to be refused. The owner
+    /// of the store does that by stopping its nodes.
+    pub fn time_out<R: Wait>(&self, rt: &R) {
+        self.progress.lock(rt).has_timed_out = true;
+    }
+
     /// Ends each connection that is still open, whatever is still to be written to it. One whose
     /// request is under way is over once the request has its reply.
     pub fn cut<R: Wait>(&self, rt: &R) {
-        self.progress.lock(rt).is_cut = true;
+        self.time_out(rt);
         self.shut_all(rt, Shutdown::Both);
     }
 }

@@ -10,8 +10,11 @@ use std::thread;
 use std::thread::Threads;
 use std::time::{Clock, Duration};
 
-/// The milliseconds in which clients have to take their replies once the server is to end.
-const GRACE_MILLISECONDS: u64 = 5_000;
+/// The milliseconds after which requests that still wait are refused once the server is to end.
+const REPLY_MILLISECONDS: u64 = 4_500;
+
+/// The milliseconds in which clients have to take their last replies after that.
+const LAST_MILLISECONDS: u64 = 500;
 
 /// Reads standard input to its end. A failed read counts as the end.
 fn read_to_end<R: Wait>(rt: &R, input: StdinLock<'static>) {
@@ -27,11 +30,14 @@ fn read_to_end<R: Wait>(rt: &R, input: StdinLock<'static>) {
     drop(input);
 }
 
-/// Ends a server: no connection is taken from now on, those that are open bring no more, and 5
-/// seconds later those that have not taken their replies are cut.
+/// Ends a server: no connection is taken from now on, and those that are open bring no more. After
+/// 4.5 seconds requests that still wait are refused, and after 5 those connections are cut that
+/// have not taken their replies.
 fn end_in_order<R: Clock + Wait>(rt: &R, connections: &Connections) {
     connections.end(rt);
-    thread::sleep(rt, Duration::from_millis(GRACE_MILLISECONDS));
+    thread::sleep(rt, Duration::from_millis(REPLY_MILLISECONDS));
+    connections.time_out(rt);
+    thread::sleep(rt, Duration::from_millis(LAST_MILLISECONDS));
     connections.cut(rt);
 }
 

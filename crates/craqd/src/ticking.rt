@@ -64,8 +64,8 @@ fn stop_members<R: Wait, N: Named + Send + 'static>(rt: &R, store: &RunningStore
 
 /// Ticks the chains until `over` is set, each about every 50 ms. At its start it ticks all of them,
 /// and from then on one after another with an even pause between: with 64 chains no two work at the
-/// same moment for the sake of a tick. Once the connections were cut it stops all members, so that
-/// no request keeps the server from its end.
+/// same moment for the sake of a tick. Once an ending server has waited long enough
+/// (`Connections::time_out`), it stops all members, so that no request keeps it from its end.
 pub fn tick_chains<R: Clock + Wait, N: Named + Send + 'static>(
     rt: &R,
     store: &RunningStore<N>,
@@ -79,7 +79,7 @@ pub fn tick_chains<R: Clock + Wait, N: Named + Send + 'static>(
         if over.load(Ordering::SeqCst) {
             break;
         }
-        if connections.is_cut(rt) {
+        if connections.has_timed_out(rt) {
             stop_members(rt, store);
         }
         thread::sleep(rt, pause);

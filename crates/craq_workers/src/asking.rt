@@ -1,7 +1,8 @@
 //! `Store::open_session`, `Store::make_ask`, `Store::finish_ask` and `Store::give_up_ask`: calls of a
 //! caller that submits its requests itself and has no `Client`; for a server.
-ghost use Rattle.std.specs.Prelude.{◌≡◌, ◌≤◌, ◌⊎◌, ◌↔◌, [], Err, IfErr, IfOk, OnErr, length};
+ghost use Rattle.std.specs.Prelude.{◌≡◌, ◌≤◌, ◌+◌, ◌⊎◌, ◌↔◌, [], Err, IfErr, IfOk, OnErr, length};
 ghost use mathlib.Core.List.{IsPrefix};
+ghost use Rattle.craq_names.specs.Limits.{greatest};
 ghost use Rattle.craq_ghost_history.specs.Histories.{AreComparable};
 ghost use Rattle.craq_store_history.specs.Chains.{IsHistory};
 ghost use Rattle.craq_store_parts.specs.Recorded.{HasAccepted, HasReplied};
@@ -36,9 +37,10 @@ impl<C: Core + Named, G: Gate> Store<C, G> {
         }
     }
 
-    /// Makes a call of a copy of this request: adds it to the store's history, after all that the
-    /// session has seen. Returns what names the call, and the request, which `submit` takes. The
-    /// reply goes to `finish_ask`, a refusal to `give_up_ask`. Refused, and no call is made, with:
+    /// Makes the session's next call, of a copy of this request: adds it to the store's history,
+    /// after all that the session has seen. Returns what names the call, and the request, which
+    /// `submit` takes. The reply goes to `finish_ask`, a refusal to `give_up_ask`. Neither makes a
+    /// call. Refused, and no call is made, with:
     /// - `UnknownChain` exactly if the store has no such chain;
     /// - `Memory` when out of memory;
     /// - `Exhausted` if the session made 2^64 - 1 calls.
@@ -50,11 +52,12 @@ impl<C: Core + Named, G: Gate> Store<C, G> {
     ) -> Result<(CallId, MadeAsk<C>), Refusal>
         ensures made { IfOk result (λ r. IsMade session.old.seen r.0 node.now ask.now session.new.seen) }
         ensures ask { IfOk result (λ r. r.1 ≡ record { name = node.now; ask = ask.now; call = r.0 }) }
-        ensures caller { IfOk result (λ r. r.0.client ≡ session.old.client) }
+        ensures call { IfOk result (λ r. r.0 ≡ record { client = session.old.client; number = session.old.next }) }
+        ensures next { IfOk result (λ _. session.new.next ≡ session.old.next + 1) }
         ensures client { session.new.client ≡ session.old.client }
         ensures later { IsPrefix session.old.seen session.new.seen }
         ensures unknown { (result ≡ Err Refusal.UnknownChain) ↔ (length self.now.names ≤ node.now.chain) }
-        ensures refused { IfErr result (λ e. (e ≡ Refusal.UnknownChain) ⊎ (e ≡ Refusal.Memory) ⊎ (e ≡ Refusal.Exhausted)) }
+        ensures refused { IfErr result (λ e. (e ≡ Refusal.UnknownChain) ⊎ (e ≡ Refusal.Memory) ⊎ ((e ≡ Refusal.Exhausted) × (session.old.next ≡ greatest))) }
         ensures same { OnErr result (session.new ≡ session.old) }
     {
         self.shared.chain(node.chain)?;
@@ -78,7 +81,7 @@ impl<C: Core + Named, G: Gate> Store<C, G> {
         ensures accepted { IfOk result (λ r. HasAccepted session.new.seen node.now call r.call.ticket) }
         ensures replied { IfOk result (λ r. HasReplied session.new.seen node.now r) }
         ensures history { IfOk result (λ r. IsHistory session.new.seen) }
-        ensures client { session.new.client ≡ session.old.client }
+        ensures client { (session.new.client ≡ session.old.client) × (session.new.next ≡ session.old.next) }
         ensures later { IsPrefix session.old.seen session.new.seen }
         ensures closed { IfErr result (λ e. e ≡ Refusal.Closed) }
     {
@@ -100,7 +103,7 @@ impl<C: Core + Named, G: Gate> Store<C, G> {
         ensures reported { (result ≡ refusal) ⊎ (result ≡ Refusal.Closed) }
         ensures kept { LeavesOpen refusal → result ≡ refusal }
         ensures given_up { LeavesOpen result ⊎ IsGivenUp session.new.seen call result }
-        ensures client { session.new.client ≡ session.old.client }
+        ensures client { (session.new.client ≡ session.old.client) × (session.new.next ≡ session.old.next) }
         ensures later { IsPrefix session.old.seen session.new.seen }
     {
         give_up_call(&self.shared.history, session, refusal, call)

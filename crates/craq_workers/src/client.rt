@@ -1,7 +1,8 @@
 //! `Client`: blocking calls of a store from any thread, one at a time, with the pass that they
 //! raise and the history that they have seen.
-ghost use Rattle.std.specs.Prelude.{◌≡◌, ◌<◌, ◌⊎◌, ◌≤◌, ◌↔◌, List, Some, max, Err, IfErr, IfOk, Ok, OnErr, length};
+ghost use Rattle.std.specs.Prelude.{◌≡◌, ◌<◌, ◌⊎◌, ◌≤◌, ◌+◌, ◌↔◌, List, Some, max, Err, IfErr, IfOk, Ok, OnErr, length};
 ghost use mathlib.Core.List.{IsPrefix};
+ghost use Rattle.craq_names.specs.Limits.{greatest};
 ghost use Rattle.craq_ghost_history.specs.Histories.{AreComparable};
 ghost use Rattle.craq_completions.specs.Calls.{IsCallOf};
 ghost use Rattle.craq_completions.specs.Refused.{CanRefuse};
@@ -10,7 +11,7 @@ ghost use Rattle.craq_store_history.specs.Chains.{IsHistory};
 ghost use Rattle.craq_store_parts.specs.Recorded.{HasAccepted, HasReplied};
 ghost use Rattle.craq_store_parts.specs.Sent.{IsMade};
 ghost use Rattle.craq_store_parts.specs.Witnessed.{IsWitnessed};
-ghost use Rattle.craq_workers.specs.Clients.{RefusesAsk};
+ghost use Rattle.craq_workers.specs.Clients.{MakesOne, RefusesAsk};
 ghost use Rattle.craq_running_chain.specs.Missed.{IsMissed};
 ghost use Rattle.craq_workers.specs.Untaken.{IsGivenUp, IsUntaken, LeavesOpen};
 
@@ -51,7 +52,7 @@ impl<C: Core + Named, G: Gate> Model for Client<C, G> {
 
     ghost Value = { Asker };
 
-    ghost view = { λ c. record { chains = length c.shared.value.chains.items; pass = c.pass; client = c.session.client; seen = c.session.seen } };
+    ghost view = { λ c. record { chains = length c.shared.value.chains.items; pass = c.pass; client = c.session.client; made = c.session.next; seen = c.session.seen } };
 }
 
 impl<C: Core + Named, G: Gate> Client<C, G> {
@@ -62,7 +63,7 @@ impl<C: Core + Named, G: Gate> Client<C, G> {
         pass: Pass,
         session: Session<C>,
     ) -> Self
-        ensures { result ≡ record { chains = length shared.value.chains.items; pass = pass; client = session.client; seen = session.seen } }
+        ensures { result ≡ record { chains = length shared.value.chains.items; pass = pass; client = session.client; made = session.next; seen = session.seen } }
     {
         Client {
             alloc,
@@ -87,10 +88,10 @@ impl<C: Core + Named, G: Gate> Client<C, G> {
     /// until a later tick sends that message again (`Store::tick`): forever, if nobody ticks the
     /// store.
     ///
-    /// The client has then seen a history of the store in which its node accepted this request,
-    /// after all that the client had seen before the call, and gave this answer (`IsWitnessed`).
-    /// So a single copy gives each strong reply after a prefix of the chain's updates, by the law
-    /// `strong_replies_are_of_one_copy` of `craq_running_promise`.
+    /// The client has then made one call more. It has seen a history of the store in which its node
+    /// accepted this request, after all that the client had seen before the call, and gave this
+    /// answer (`IsWitnessed`). So a single copy gives each strong reply after a prefix of the chain's
+    /// updates, by the law `strong_replies_are_of_one_copy` of `craq_running_promise`.
     ///
     /// Refused, with the pass as it was, with:
     /// - `UnknownChain` exactly if the store has no such chain;
@@ -118,6 +119,7 @@ impl<C: Core + Named, G: Gate> Client<C, G> {
         ensures same { OnErr result (self.new.pass ≡ self.old.pass) }
         ensures chains { self.new.chains ≡ self.old.chains }
         ensures client { self.new.client ≡ self.old.client }
+        ensures once { MakesOne self.old.made result self.new.made }
         ensures later { IsPrefix self.old.seen self.new.seen }
         ensures run { IfOk result (λ r. IsWitnessed self.old.client self.old.seen node ask r.0 r.1 self.new.seen) }
         ensures untaken { IfErr result (λ e. IsUntaken self.old.client self.old.seen node ask self.new.seen e) }
@@ -172,7 +174,8 @@ impl<C: Core + Named, G: Gate> Client<C, G> {
         ensures call { IfOk result (λ r. IsCallOf node.now ask.now self.old.pass r.0 r.1) }
         ensures unknown { (result ≡ Err Refusal.UnknownChain) ↔ (self.old.chains ≤ node.now.chain) }
         ensures refused { IfErr result (λ e. RefusesAsk self.old.chains node.now ask.now e) }
-        ensures same { self.new ≡ record self.old { seen = self.new.seen } }
+        ensures same { self.new ≡ record self.old { made = self.new.made; seen = self.new.seen } }
+        ensures once { MakesOne self.old.made result self.new.made }
         ensures later { IsPrefix self.old.seen self.new.seen }
         ensures run { IfOk result (λ r. IsWitnessed self.old.client self.old.seen node.now ask.now r.0 r.1 self.new.seen) }
         ensures untaken { IfErr result (λ e. IsUntaken self.old.client self.old.seen node.now ask.now self.new.seen e) }
@@ -199,7 +202,9 @@ impl<C: Core + Named, G: Gate> Client<C, G> {
         ensures made { IfOk result (λ r. IsMade self.old.seen r.0 node.now ask.now self.new.seen) }
         ensures ask { IfOk result (λ r. r.1 ≡ record { name = node.now; ask = ask.now; call = r.0 }) }
         ensures caller { IfOk result (λ r. r.0.client ≡ self.old.client) }
-        ensures same { self.new ≡ record self.old { seen = self.new.seen } }
+        ensures next { IfOk result (λ _. self.new.made ≡ self.old.made + 1) }
+        ensures same { self.new ≡ record self.old { made = self.new.made; seen = self.new.seen } }
+        ensures none { OnErr result (self.new ≡ self.old) }
         ensures later { IsPrefix self.old.seen self.new.seen }
         ensures refused { IfErr result (λ e. (e ≡ Refusal.Memory) ⊎ (e ≡ Refusal.Closed)) }
     {
@@ -287,8 +292,8 @@ impl<C: Core + Named, G: Gate> Client<C, G> {
     }
 }
 
-/// Makes a call of this request: adds it to the store's history. Refused with `Memory` when out of
-/// memory, and with `Closed` if the client has no further number.
+/// Makes the session's next call, of this request: adds it to the store's history. Refused with
+/// `Memory` when out of memory, and with `Closed` if the session made 2^64 - 1 calls.
 pub(crate) fn make_call<N: Named>(
     alloc: Global,
     history: &StoreHistory<N>,
@@ -298,10 +303,11 @@ pub(crate) fn make_call<N: Named>(
 ) -> Result<(CallId, MadeAsk<N>), Refusal>
     ensures made { IfOk result (λ r. IsMade session.old.seen r.0 node.now ask.now session.new.seen) }
     ensures ask { IfOk result (λ r. r.1 ≡ record { name = node.now; ask = ask.now; call = r.0 }) }
-    ensures caller { IfOk result (λ r. r.0.client ≡ session.old.client) }
+    ensures call { IfOk result (λ r. r.0 ≡ record { client = session.old.client; number = session.old.next }) }
+    ensures next { IfOk result (λ _. session.new.next ≡ session.old.next + 1) }
     ensures client { session.new.client ≡ session.old.client }
     ensures later { IsPrefix session.old.seen session.new.seen }
-    ensures refused { IfErr result (λ e. (e ≡ Refusal.Memory) ⊎ (e ≡ Refusal.Closed)) }
+    ensures refused { IfErr result (λ e. (e ≡ Refusal.Memory) ⊎ ((e ≡ Refusal.Closed) × (session.old.next ≡ greatest))) }
     ensures same { OnErr result (session.new ≡ session.old) }
 {
     let copy = ask.copied(alloc)?;
@@ -330,7 +336,7 @@ pub(crate) fn finish_call<N: Named>(
     ensures accepted { IfOk result (λ r. HasAccepted session.new.seen node.now call r.call.ticket) }
     ensures replied { IfOk result (λ r. HasReplied session.new.seen node.now r) }
     ensures history { IfOk result (λ r. IsHistory session.new.seen) }
-    ensures client { session.new.client ≡ session.old.client }
+    ensures client { (session.new.client ≡ session.old.client) × (session.new.next ≡ session.old.next) }
     ensures later { IsPrefix session.old.seen session.new.seen }
     ensures closed { IfErr result (λ e. e ≡ Refusal.Closed) }
 {
@@ -353,7 +359,7 @@ pub(crate) fn give_up_call<N: Named>(
     ensures reported { (result ≡ refusal) ⊎ (result ≡ Refusal.Closed) }
     ensures kept { LeavesOpen refusal → result ≡ refusal }
     ensures given_up { LeavesOpen result ⊎ IsGivenUp session.new.seen call result }
-    ensures client { session.new.client ≡ session.old.client }
+    ensures client { (session.new.client ≡ session.old.client) × (session.new.next ≡ session.old.next) }
     ensures later { IsPrefix session.old.seen session.new.seen }
 {
     let (refusal, back, moment) = refusal.into_refused().into_parts();
@@ -382,7 +388,7 @@ fn see_moment<N: Named>(
     ensures seen { IsMissed result ⊎ ((log : List Entry) × (moment ≡ Some log) × IsPrefix log session.new.seen × (result ≡ refusal)) }
     ensures reported { (result ≡ refusal) ⊎ (result ≡ Refusal.Closed) }
     ensures kept { LeavesOpen refusal → result ≡ refusal }
-    ensures client { session.new.client ≡ session.old.client }
+    ensures client { (session.new.client ≡ session.old.client) × (session.new.next ≡ session.old.next) }
     ensures later { IsPrefix session.old.seen session.new.seen }
 {
     match moment {

@@ -326,13 +326,13 @@ impl<C: Core + Named, G: Gate> Store<C, G> {
         self.form.journal
     }
 
-    /// Makes a client of the store with this pass, and with a session of its own, which has seen
-    /// nothing of the store's history yet. Fails when out of memory, and if 2^64 - 1 clients were
-    /// made.
+    /// Makes a client of the store with this pass, and with a session of its own, which made no call
+    /// and has seen nothing of the store's history yet. Fails when out of memory, and if 2^64 - 1
+    /// clients were made.
     pub fn client<R: Wait>(&self, rt: &R, pass: Pass) -> Result<Client<C, G>, AllocError>
         ensures chains { IfOk result (λ c. c.chains ≡ length self.now.names) }
         ensures pass { IfOk result (λ c. c.pass ≡ pass) }
-        ensures seen { IfOk result (λ c. c.seen ≡ []) }
+        ensures fresh { IfOk result (λ c. (c.made ≡ 0) × (c.seen ≡ [])) }
     {
         let shared = Arc::try_clone(&self.shared)?;
         let mut registrar = shared.registrar.lock(rt);

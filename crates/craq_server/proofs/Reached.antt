@@ -29,8 +29,7 @@ use Rattle.craq_event_loop.specs.Reaching as reaching
 use Rattle.craq_workers.specs.Stores.{Stored}
 use Rattle.craq_server.specs.Refusing.{RefusesServed}
 use Rattle.craq_server.specs.Status.{TellsStatus}
-use Rattle.craq_server.specs.Sessions.{AreWitnessed, Connected, FinishesCall, IsNewSession, IsReachableAt, IsWitnessedConnection, IsWitnessedTurn, SeesMore, Submits}
-use Rattle.craq_server.proofs.Sessions.{sees_as_much}
+use Rattle.craq_server.specs.Sessions.{AreWitnessed, Connected, FinishesCall, IsNewSession, IsReachableAt, IsWitnessedConnection, IsWitnessedTurn, MakesCall, Submits}
 use Rattle.craq_server.proofs.Witnessing.{ended_witnessed, nothing_witnessed}
 
 -- one turn more
@@ -234,11 +233,13 @@ module _ (tells : List ℕ → Type 0) (refuses : Refusing) (first : ConnectionS
   stood_reached _ _ _ (completes read_before written_before old new reply before (outcome, is, answers)) =
       completed first.session read_before written_before old.phase reply outcome old new is answers (stood_reached read_before written_before old before)
 
-  since_sees : (p : Phase) (last now : Connected) → Since p last now → SeesMore last now
-  since_sees (phases.Waits q) last now s = s.1.1
-  since_sees phases.Idle last now same = sees_as_much last now (ap (λ (x : Connected). x.client) same) (ap (λ (x : Connected). x.seen) same)
-  since_sees (phases.Asks m) last now same = sees_as_much last now (ap (λ (x : Connected). x.client) same) (ap (λ (x : Connected). x.seen) same)
-  since_sees (phases.Over why) last now same = sees_as_much last now (ap (λ (x : Connected). x.client) same) (ap (λ (x : Connected). x.seen) same)
+  since_waits : (p : Phase) (last now : Connected) → Since p last now → (q : CallRequest) → p ≡ phases.Waits q → MakesCall last q.node q.ask now
+  since_waits (phases.Waits r) last now s q is =
+      let same : r ≡ q = cc in
+      subst (λ (x : CallRequest). MakesCall last x.node x.ask now) same s.1
+  since_waits phases.Idle last now same q is = absurd cc
+  since_waits (phases.Asks m) last now same q is = absurd cc
+  since_waits (phases.Over why) last now same q is = absurd cc
 
   since_rests : (p : Phase) (last now : Connected) → Since p last now → ((q : CallRequest) → p ≢ phases.Waits q) → now ≡ last
   since_rests (phases.Waits q) last now s rests = absurd (rests q refl)
@@ -255,7 +256,7 @@ module _ (tells : List ℕ → Type 0) (refuses : Refusing) (first : ConnectionS
         holds = stood.holds;
         last = stood.last;
         witnessed = stood.witnessed;
-        sees = since_sees state.phase stood.last state.session stood.since;
+        waits = since_waits state.phase stood.last state.session stood.since;
         rests = since_rests state.phase stood.last state.session stood.since;
       }
 

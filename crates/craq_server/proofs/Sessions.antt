@@ -1,5 +1,5 @@
 -- The session of a connection after a call was submitted or finished.
-use Rattle.std.proofs.Common.{◌≡◌, ◌⊎◌, ◌∙◌, ℕ, zero, suc, [], Option, None, Some, Result, Ok, Err, IfErr, IfOk, IsSome, inl, inr, refl, subst, sym, arith}
+use Rattle.std.proofs.Common.{◌≡◌, ◌⊎◌, ◌∙◌, ℕ, zero, suc, [], Option, None, Some, Result, Ok, Err, IfErr, IfOk, IsSome, inl, inr, refl, subst, sym, ap, arith}
 use Rattle.std.proofs.lemmas.List.{append-nil}
 use Rattle.craq_commands.specs.declared.read_mode.ReadMode.TheVariants as modes
 use Rattle.craq_names.specs.declared.name.NodeName.{NodeName}
@@ -16,12 +16,19 @@ use Rattle.craq_seat.specs.Calls.{Called}
 use Rattle.craq_store_history.specs.declared.entry.CallId.{CallId}
 use Rattle.craq_store_history.specs.Chains.{IsHistory}
 use Rattle.craq_store_parts.specs.Recorded.{HasAccepted, HasReplied}
+use Rattle.craq_store_parts.specs.Sent.{IsMade}
 use Rattle.craq_workers.specs.Untaken.{IsGivenUp, LeavesOpen}
-use Rattle.craq_server.specs.Sessions.{Connected, Finishes, GivesUp, SeesMore}
+use Rattle.craq_server.specs.Sessions.{CallsOnce, Connected, Finishes, GivesUp, MakesCall, SeesMore, next_call}
 
 -- no call was under way
-pub sees_as_much : (old new : Connected) → new.client ≡ old.client → new.seen ≡ old.seen → SeesMore old new
-sees_as_much old new client seen = rw seen (client, ([], append-nil old.seen))
+pub sees_as_much : (old new : Connected) → new.client ≡ old.client → new.made ≡ old.made → new.seen ≡ old.seen → SeesMore old new
+sees_as_much old new client made seen = rw seen (client, made, ([], append-nil old.seen))
+
+-- a call was made
+pub makes_call : (old new : Connected) (node : NodeName) (ask : Ask) (call : CallId) → call ≡ next_call old → new.call ≡ Some call → IsMade old.seen call node ask new.seen → CallsOnce old new
+    → MakesCall old node ask new
+makes_call old new node ask call is under_way added once =
+    (under_way ∙ ap (λ (x : CallId). Some x) is, subst (λ (x : CallId). IsMade old.seen x node ask new.seen) is added, once)
 
 -- a call was finished by an answer
 pub finishes_made : (old new : Connected) (node : NodeName) (reply : Called) (call : CallId) (r : Result Called Refusal) → old.call ≡ Some call
@@ -37,12 +44,12 @@ gives_up_made old new came reported call is either kept (inl leaves) more = reco
 gives_up_made old new came reported call is either kept (inr up) more = record { either = either; kept = λ _. kept; untaken = inr (call, is, up); sees = more }
 
 -- no call was under way, and none is given up
-pub gives_none_up : (old new : Connected) (came : Refusal) → old.call ≡ None → new.client ≡ old.client → new.seen ≡ old.seen → GivesUp old came Closed new
-gives_none_up old new came none client seen = record {
+pub gives_none_up : (old new : Connected) (came : Refusal) → old.call ≡ None → new.client ≡ old.client → new.made ≡ old.made → new.seen ≡ old.seen → GivesUp old came Closed new
+gives_none_up old new came none client made seen = record {
   either = inr refl;
   kept = λ some. (let no : IsSome {T = CallId} None = subst (λ (call : Option CallId). IsSome call) none some in cc);
   untaken = inl tt;
-  sees = sees_as_much old new client seen;
+  sees = sees_as_much old new client made seen;
 }
 
 -- the refusal that a request can have, of one that it may not have

@@ -1,5 +1,5 @@
 -- The session of a connection of a served store, and the calls that it makes and finishes.
-use Rattle.std.specs.Prelude.{◌≡◌, ◌≢◌, ◌⊎◌, ℕ, List, [], ◌∷◌, Option, None, Some, IsSome, Result, Ok, Err, length}
+use Rattle.std.specs.Prelude.{◌≡◌, ◌≢◌, ◌⊎◌, ◌+◌, ℕ, List, [], ◌∷◌, Option, None, Some, IsSome, Result, Ok, Err, length}
 use mathlib.Core.List.{IsPrefix}
 use Rattle.craq_names.specs.declared.name.NodeName.{NodeName}
 use Rattle.craq_names.specs.declared.refusal.Refusal.{Refusal}
@@ -31,24 +31,33 @@ use Rattle.craq_workers.specs.Untaken.{IsGivenUp, IsRefusedCall, LeavesOpen}
 use Rattle.craq_server.specs.Refusing.{RefusesServed}
 use Rattle.craq_server.specs.Status.{TellsStatus}
 
--- the view that contracts have of a connection's session: its client's number, the history that it has seen, and the call that is
--- under way, if there is one
+-- the view that contracts have of a connection's session: its client's number, the number of calls that it made, the history that it
+-- has seen, and the call that is under way, if there is one
 pub record Connected : Type 0 where
   pub client : ℕ
+  pub made : ℕ
   pub seen : List Entry
   pub call : Option CallId
 
--- the session is new: it has seen nothing, and no call is under way
+-- the session is new: it made no call and has seen nothing, and no call is under way
 abbrev pub IsNewSession : Connected → Type 0
-IsNewSession s = (s.seen ≡ []) × (s.call ≡ None)
+IsNewSession s = (s.made ≡ 0) × (s.seen ≡ []) × (s.call ≡ None)
 
--- it is the session of the same client, which has seen at least as much
+-- the call that the session makes next
+abbrev pub next_call : Connected → CallId
+next_call s = record { client = s.client; number = s.made }
+
+-- it is the session of the same client, which made no further call and has seen at least as much
 abbrev pub SeesMore : Connected → Connected → Type 0
-SeesMore old new = (new.client ≡ old.client) × IsPrefix old.seen new.seen
+SeesMore old new = (new.client ≡ old.client) × (new.made ≡ old.made) × IsPrefix old.seen new.seen
 
--- the session made a call of this request at this node, after all that it had seen, and the call is under way
+-- it is the session of the same client, which made one call more and has seen at least as much
+abbrev pub CallsOnce : Connected → Connected → Type 0
+CallsOnce old new = (new.client ≡ old.client) × (new.made ≡ old.made + 1) × IsPrefix old.seen new.seen
+
+-- the session made its next call, of this request at this node, after all that it had seen, and the call is under way
 abbrev pub MakesCall : Connected → NodeName → Ask → Connected → Type 0
-MakesCall old node ask new = (call : CallId) × (new.call ≡ Some call) × (call.client ≡ old.client) × IsMade old.seen call node ask new.seen
+MakesCall old node ask new = (new.call ≡ Some (next_call old)) × IsMade old.seen (next_call old) node ask new.seen × CallsOnce old new
 
 -- the refusals of a request for which no call is made: the store has no such chain, memory is out, or its pass is too far above those in
 -- earlier replies, or the session made too many calls
@@ -58,7 +67,7 @@ RefusesFirst e = (e ≡ UnknownChain) ⊎ (e ≡ Memory) ⊎ (e ≡ Exhausted)
 -- a call was submitted; or it was refused before it was made, and the session is as it was
 abbrev pub Submits : Connected → CallRequest → Option (Result (Result Called Refusal) Refusal) → Connected → Type 0
 Submits old q (Some (Err e)) new = RefusesFirst e × (new ≡ old)
-Submits old q came new = MakesCall old q.node q.ask new × SeesMore old new
+Submits old q came new = MakesCall old q.node q.ask new
 
 -- the session gave up its call that was under way, which was refused so, and this refusal is reported: it, or Closed. It leaves open
 -- whether a step accepted the call; or none does, in the history that the session has seen since or in any that goes on from it, and the
@@ -85,8 +94,13 @@ Finishes old node (Err came) (Err e) new = GivesUp old came e new
 abbrev pub FinishesCall : Connected → CallRequest → Result Called Refusal → Result Called Refusal → Connected → Type 0
 FinishesCall old q reply outcome new = Finishes old q.node reply outcome new
 
--- the message asks this request of this node of the chain of its first object; the reply has the answer of a receipt; and the call is in
--- the store's history, after all that the connection had seen before, with this answer in what it has seen since
+-- the session's next call, of this request at this node, is in the store's history, after all that the session had seen before, with the
+-- answer of this receipt in what it has seen since
+abbrev pub IsWitnessedNext : Connected → NodeName → Ask → Called → Connected → Type 0
+IsWitnessedNext old node ask receipt new = (shown : IsWitnessed old.client old.seen node ask receipt.answer receipt new.seen) × (shown.call ≡ next_call old)
+
+-- the message asks this request of this node of the chain of its first object; the reply has the answer of a receipt; and the session's
+-- next call is witnessed with this receipt
 pub record IsWitnessedReply (old : Connected) (message : ClientMessage) (reply : ClientReply) (new : Connected) : Type 0 where
   pub node : NodeName
   pub pass : ℕ
@@ -95,22 +109,23 @@ pub record IsWitnessedReply (old : Connected) (message : ClientMessage) (reply :
   pub named : node ≡ name_of node.node ask
   pub asks : message ≡ message_of node.node pass ask
   pub replies : IsReplyOf message reply receipt
-  pub witnessed : IsWitnessed old.client old.seen node ask receipt.answer receipt new.seen
+  pub witnessed : IsWitnessedNext old node ask receipt new
 
--- the connection made a call of this request at this node, after all that it had seen, and has seen that
+-- the connection made its next call, of this request at this node, after all that it had seen, and has seen that
 pub record HasMade (old : Connected) (node : NodeName) (ask : Ask) (new : Connected) : Type 0 where
-  pub call : CallId
-  pub caller : call.client ≡ old.client
   pub mid : List Entry
-  pub made : IsMade old.seen call node ask mid
+  pub made : IsMade old.seen (next_call old) node ask mid
   pub later : IsPrefix mid new.seen
 
--- a request of a connection is refused so: no call was made of it, and its session is as it was; or its call may have been taken; or no
--- step accepts its call, in the history that the session has seen since or in any that goes on from it, and its node refused it by its
--- rules or was not asked
+-- the call that was made of a request is refused so: it may have been taken; or no step accepts it, in the history that the session has
+-- seen since or in any that goes on from it, and its node refused it by its rules or was not asked
+abbrev pub IsRefusedNext : Connected → NodeName → Ask → Refusal → Connected → Type 0
+IsRefusedNext old node ask e new =
+    (LeavesOpen e × HasMade old node ask new) ⊎ ((refused : IsRefusedCall old.client old.seen node ask e new.seen) × (refused.call ≡ next_call old))
+
+-- a request of a connection is refused so: no call was made of it, and its session is as it was; or one was
 abbrev pub IsRefusedRequest : Connected → NodeName → Ask → Refusal → Connected → Type 0
-IsRefusedRequest old node ask e new =
-    (RefusesFirst e × (new ≡ old)) ⊎ (LeavesOpen e × HasMade old node ask new) ⊎ IsRefusedCall old.client old.seen node ask e new.seen
+IsRefusedRequest old node ask e new = (RefusesFirst e × (new ≡ old)) ⊎ (CallsOnce old new × IsRefusedNext old node ask e new)
 
 -- so is a message that is an update or a read; where a status is refused, its session is as it was
 abbrev pub IsRefusedMessage : Connected → ClientMessage → Refusal → Connected → Type 0
@@ -118,12 +133,12 @@ IsRefusedMessage old (messages.Update node pass update) e new = IsRefusedRequest
 IsRefusedMessage old (messages.Read node pass mode object) e new = IsRefusedRequest old (name_of node (asks.Read mode object)) (asks.Read mode object) e new
 IsRefusedMessage old messages.Status e new = new ≡ old
 
--- a turn of a connection: its session sees more; a reply to an update or to a read is witnessed; a refusal of one says whether it may
--- have been taken; and after the reply to a status its session is as it was
+-- a turn of a connection: its session made one call for an update or a read that is answered, and the reply is witnessed; a refusal of
+-- one says whether a call was made, and whether it may have been taken; and after the reply to a status its session is as it was
 abbrev pub IsWitnessedTurn : Connected → ClientMessage → ClientReply → Connected → Type 0
-IsWitnessedTurn old message (replies.Update pass reply) new = SeesMore old new × IsWitnessedReply old message (replies.Update pass reply) new
-IsWitnessedTurn old message (replies.Read pass version value) new = SeesMore old new × IsWitnessedReply old message (replies.Read pass version value) new
-IsWitnessedTurn old message (replies.Refused e) new = SeesMore old new × IsRefusedMessage old message e new
+IsWitnessedTurn old message (replies.Update pass reply) new = CallsOnce old new × IsWitnessedReply old message (replies.Update pass reply) new
+IsWitnessedTurn old message (replies.Read pass version value) new = CallsOnce old new × IsWitnessedReply old message (replies.Read pass version value) new
+IsWitnessedTurn old message (replies.Refused e) new = IsRefusedMessage old message e new
 IsWitnessedTurn old message (replies.Status text) new = new ≡ old
 
 -- a new connection of an event loop reaches the state, at a server of this store
@@ -137,11 +152,12 @@ AreWitnessed first [] last = last ≡ first
 AreWitnessed first (turn ∷ later) last = (mid : Connected) × IsWitnessedTurn first turn.0 turn.1 mid × AreWitnessed mid later last
 
 -- the bytes `read` came and the bytes `written` went on the connection: with those that are unsent, these are the frames of the replies of
--- its turns. The turns are witnessed, and its session sees more since then only if a call is under way
+-- its turns. The turns are witnessed. Since then its session made a call if one is under way, and is else as it was: so each of its
+-- other calls is in one turn
 pub record IsWitnessedConnection (first : Connected) (read written : List ℕ) (state : ConnectionState Connected) : Type 0 where
   pub turns : History
   pub holds : Holds state.phase state.codec read written turns
   pub last : Connected
   pub witnessed : AreWitnessed first turns last
-  pub sees : SeesMore last state.session
+  pub waits : (q : CallRequest) → state.phase ≡ Waits q → MakesCall last q.node q.ask state.session
   pub rests : ((q : CallRequest) → state.phase ≢ Waits q) → state.session ≡ last

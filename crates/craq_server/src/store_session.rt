@@ -2,7 +2,7 @@
 //! for `served_store`.
 ghost use Rattle.std.specs.Prelude.{◌≡◌, ◌≤◌, ◌⊎◌, ◌↔◌, [], None, Some, Err, Ok, IfErr, IfOk, OnErr, length};
 ghost use mathlib.Core.List.{IsPrefix};
-ghost use Rattle.craq_server.specs.Sessions.{Finishes, GivesUp, MakesCall, SeesMore};
+ghost use Rattle.craq_server.specs.Sessions.{Finishes, GivesUp, MakesCall};
 
 use craq_model::Ask;
 use craq_names::{NodeName, Refusal};
@@ -13,8 +13,8 @@ use craq_workers::{
 };
 use std::marker::Model;
 
-/// The session of a connection. A contract sees its client's number, the history that it has seen,
-/// and the call that is under way.
+/// The session of a connection. A contract sees its client's number, the number of calls that it
+/// made, the history that it has seen, and the call that is under way.
 #[derive(Drop)]
 pub(crate) struct StoreSession<C: Named> {
     session: Session<C>,
@@ -27,7 +27,7 @@ impl<C: Named> Model for StoreSession<C> {
 
     ghost Value = { Connected };
 
-    ghost view = { λ s. record { client = s.session.client; seen = s.session.seen; call = s.call } };
+    ghost view = { λ s. record { client = s.session.client; made = s.session.next; seen = s.session.seen; call = s.call } };
 
     ghost invariant = { λ s. IfSome s.call (λ call. call.client ≡ s.session.client) };
 }
@@ -35,7 +35,7 @@ impl<C: Named> Model for StoreSession<C> {
 impl<C: Core + Named> StoreSession<C> {
     /// Makes the session of a new connection, which made no call yet.
     pub(crate) fn new(session: Session<C>) -> Self
-        ensures { result ≡ record { client = session.client; seen = session.seen; call = None } }
+        ensures { result ≡ record { client = session.client; made = session.next; seen = session.seen; call = None } }
     {
         StoreSession {
             session,
@@ -43,8 +43,9 @@ impl<C: Core + Named> StoreSession<C> {
         }
     }
 
-    /// Makes a call of this request, which is under way from then on. Refused as `Store::make_ask`
+    /// Makes the next call, of this request, which is under way from then on. Refused as `Store::make_ask`
     /// is, and then nothing changes.
+    #[tactic(auto, using(crate::proofs::Sessions::makes_call))]
     pub(crate) fn make<G: Gate>(
         &mut self,
         store: &Store<C, G>,
@@ -52,8 +53,7 @@ impl<C: Core + Named> StoreSession<C> {
         ask: &Ask,
     ) -> Result<MadeAsk<C>, Refusal>
         ensures made { IfOk result (λ m. (m.name ≡ node.now) × (m.ask ≡ ask.now)) }
-        ensures call { IfOk result (λ m. MakesCall self.old node.now ask.now self.new) }
-        ensures later { SeesMore self.old self.new }
+        ensures call { IfOk result (λ _. MakesCall self.old node.now ask.now self.new) }
         ensures unknown { (result ≡ Err Refusal.UnknownChain) ↔ (length store.now.names ≤ node.now.chain) }
         ensures refused { IfErr result (λ e. (e ≡ Refusal.UnknownChain) ⊎ (e ≡ Refusal.Memory) ⊎ (e ≡ Refusal.Exhausted)) }
         ensures same { OnErr result (self.new ≡ self.old) }

@@ -18,7 +18,7 @@ use Rattle.craq_store_parts.specs.Sent.{IsMade, MadeCall}
 use Rattle.craq_store_parts.specs.Witnessed.{HasRefused, HasRefusedCall, IsNeverAccepted, IsRefusedAfter}
 use Rattle.craq_store_parts.proofs.Recording.{has_added, in_later}
 use Rattle.craq_running_chain.specs.Missed.{IsMissed}
-use Rattle.craq_workers.specs.Untaken.{IsExplained, IsGivenUp, IsRefusedCall, IsUntaken, LeavesOpen}
+use Rattle.craq_workers.specs.Untaken.{IsJustified, IsGivenUp, IsRefusedCall, IsUntaken, LeavesOpen}
 
 -- a moment at which a node refuses the call is after the call, and the node and the request are the call's
 refused_at : (old mid new moment : List Entry) (call : CallId) (node name : NodeName) (ask asked : Ask) (e : Refusal) → IsHistory new → IsMade old call node ask mid → IsPrefix mid new → IsPrefix moment new
@@ -40,7 +40,7 @@ refused_at old mid new moment call node name ask asked e h made p q called refus
       refused = subst (λ (a : Ask). HasRefused moment node a e) request by_name;
     }
 
-pub refused_after : (old mid new : List Entry) (call : CallId) (node : NodeName) (ask : Ask) (e : Refusal) → IsHistory new → IsMade old call node ask mid → IsPrefix mid new → IsExplained new call e → IsMissed e ⊎ IsRefusedAfter mid node ask e new
+pub refused_after : (old mid new : List Entry) (call : CallId) (node : NodeName) (ask : Ask) (e : Refusal) → IsHistory new → IsMade old call node ask mid → IsPrefix mid new → IsJustified new call e → IsMissed e ⊎ IsRefusedAfter mid node ask e new
 refused_after old mid new call node ask e h made p (inl m) = inl m
 refused_after old mid new call node ask e h made p (inr (moment, q, r)) = inr (refused_at old mid new moment call node r.0 ask r.1 e h made p q r.2 r.3)
 

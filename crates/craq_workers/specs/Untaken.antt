@@ -21,12 +21,12 @@ LeavesOpen e = ⊥
 
 -- the refusal came before a step of the call's node; or the node refuses the call by its rules, as this history has the node at a moment
 -- after the call was made
-abbrev pub IsExplained : List Entry → CallId → Refusal → Type 0
-IsExplained seen call e = IsMissed e ⊎ ((moment : List Entry) × IsPrefix moment seen × HasRefusedCall moment call e)
+abbrev pub IsJustified : List Entry → CallId → Refusal → Type 0
+IsJustified seen call e = IsMissed e ⊎ ((moment : List Entry) × IsPrefix moment seen × HasRefusedCall moment call e)
 
--- no step accepts the call that was refused so, in this history or in any that goes on from it; and the refusal is explained
+-- no step accepts the call that was refused so, in this history or in any that goes on from it; and the refusal is justified
 abbrev pub IsGivenUp : List Entry → CallId → Refusal → Type 0
-IsGivenUp seen call e = IsNeverAccepted seen call × IsHistory seen × IsExplained seen call e
+IsGivenUp seen call e = IsNeverAccepted seen call × IsHistory seen × IsJustified seen call e
 
 -- the client made a call of this request at this node, after all of `old`; and no step accepts it, in `new` or in any history that goes
 -- on from it. The refusal came before a step of the node, or the node refused the call by its rules after it was made

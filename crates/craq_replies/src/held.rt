@@ -1,11 +1,14 @@
 //! The kept replies of one client. `places` holds one for each client.
-ghost use Rattle.std.specs.Prelude.{◌≡◌, ◌<◌, ◌≤◌, ◌↔◌, [], length, IsOk, OnOk, OnErr, IsTrue};
+ghost use Rattle.std.specs.Prelude.{◌≡◌, ◌<◌, ◌≤◌, ◌↔◌, ◌++◌, ◌∷◌, ℕ, [], drop, length, slice_index_or, slice_set, IsOk, OnOk, OnErr, IsTrue};
+ghost use Rattle.std.specs.List.{AllByRecursion};
+ghost use Rattle.craq_commands.specs.declared.reply.Reply.{Reply};
 ghost use Rattle.craq_commands.specs.Kept.{keep};
 
-use craq_commands::{Kept, Reply, keep_in};
+use craq_commands::{Kept, Reply, WINDOW_LIMIT, keep_in};
 use craq_names::RequestNo;
 use std::alloc::{AllocError, Global};
 use std::marker::Model;
+use std::mem;
 
 /// The replies kept for one client.
 #[derive(Drop)]
@@ -22,6 +25,38 @@ impl Model for HeldReplies {
     ghost view = { λ h. record { replies = h.replies.items; room = vec_capacity h.replies - vec_len h.replies } };
 
     ghost invariant = { λ h. length h.replies.items ≤ 8 };
+}
+
+/// Returns true exactly if all replies are to smaller numbers than this one.
+fn are_before(replies: &[Kept], number: RequestNo) -> bool
+    ensures { IsTrue result ↔ AllByRecursion (λ (k : ℕ × Reply). k.0 < number) replies.now }
+{
+    for kept in replies {
+        if kept.0 >= number {
+            return false;
+        }
+    }
+    true
+}
+
+/// Puts a reply at an index, and returns the one that was there.
+fn exchange(replies: &mut Vec<Kept>, index: usize, kept: Kept) -> Kept
+    requires { index < length replies.old.items }
+    ensures old { result ≡ slice_index_or replies.old.items index result }
+    ensures new { replies.new.items ≡ slice_set replies.old.items index kept }
+{
+    mem::replace(&mut replies[index], kept)
+}
+
+/// Appends a reply, and drops the first one then. Each reply moves by one place, so the vector's
+/// memory stays as it is.
+fn shift_in(replies: &mut Vec<Kept>, newest: Kept)
+    ensures { replies.new.items ≡ drop 1 (replies.old.items ++ newest ∷ []) }
+{
+    let mut kept = newest;
+    for index in (0..replies.len()).rev() {
+        kept = exchange(replies, index, kept);
+    }
 }
 
 impl HeldReplies {
@@ -69,12 +104,18 @@ impl HeldReplies {
     }
 
     /// Keeps the reply to a new number; a ninth drops the reply to the smallest number. Fails only
-    /// when out of memory, and only if no room is reserved; the replies are unchanged on error.
+    /// when out of memory, and only if no room is reserved; the replies are unchanged on error. A
+    /// client's newest number behind 8 others, as most are, costs one move of each reply.
+    #[tactic(auto, using(crate::proofs::Shifted::kept_newest))]
     pub fn keep(&mut self, number: RequestNo, reply: Reply) -> Result<(), AllocError>
         ensures ok { OnOk result (self.new.replies ≡ keep self.old.replies number reply) }
         ensures err { OnErr result (self.new.replies ≡ self.old.replies) }
         ensures succeeds { 0 < self.old.room → IsOk result }
     {
+        if self.replies.len() == WINDOW_LIMIT && are_before(self.replies.as_slice(), number) {
+            shift_in(&mut self.replies, (number, reply));
+            return Ok(());
+        }
         keep_in(&mut self.replies, number, reply)
     }
 }

@@ -1,3 +1,4 @@
+mod Absorbing
 pub mod Lookups
 pub mod Writes
 pub mod Splitting

@@ -7,7 +7,7 @@ use Rattle.std.specs.Cmp.Lexicographic.{nat_list_cmp_total}
 use Rattle.std.specs.FinMap.{entries_sorted, from_entries}
 use Rattle.std.specs.FinMap.Entries.{find-append, find-put, is_some-find, is_sorted-put, same_entries}
 use Rattle.std.specs.List.{IsDistinct}
-use Rattle.std.specs.declared.hash.DefaultHasher.{DefaultHasher}
+use Rattle.craq_key_map.specs.declared.sip.Sip.{Sip}
 use Rattle.std.specs.Option.{option_map}
 use Rattle.std.proofs.lemmas.Option.{none-some, same_Some, slice_get-map}
 use Rattle.std.proofs.lemmas.Map.Keys.{IsDistinct-head, IsDistinct-push, IsDistinct-tail}
@@ -109,7 +109,7 @@ place_within (e ∷ es) zero some = omega arith
 place_within (e ∷ es) (suc place) some = omega (arith, place_within es place some)
 
 -- an item is replaced
-module _ {T : Type 0} (m : Mapped T) (count : ℕ) (index : Indexed) (fed : DefaultHasher) (h : IsMapped m count index fed) (place : ℕ) (e : List ℕ × T) (item : T) (at : slice_get m place ≡ Some e) where
+module _ {T : Type 0} (m : Mapped T) (count : ℕ) (index : Indexed) (fed : Sip) (h : IsMapped m count index fed) (place : ℕ) (e : List ℕ × T) (item : T) (at : slice_get m place ≡ Some e) where
   abbrev after : Mapped T
   after = set m place (e.0, item)
 
@@ -128,7 +128,7 @@ module _ {T : Type 0} (m : Mapped T) (count : ℕ) (index : Indexed) (fed : Defa
       put_map m after e.0 item (found_set m place e item h.distinct at) ∙ ap (λ k. put_key (entries_of m) k item) (same_Some e.0 key (sym (key_at m place e at) ∙ is))
 
 -- a key that is absent is inserted
-module _ {T : Type 0} (m : Mapped T) (count : ℕ) (old new : Indexed) (fed : DefaultHasher) (h : IsMapped m count old fed) (keeps : Keeps old new) (key : List ℕ) (item : T) (absent : at_key (entries_of m) key ≡ None) where
+module _ {T : Type 0} (m : Mapped T) (count : ℕ) (old new : Indexed) (fed : Sip) (h : IsMapped m count old fed) (keeps : Keeps old new) (key : List ℕ) (item : T) (absent : at_key (entries_of m) key ≡ None) where
   none : at_key m key ≡ None
   none = sym (at_entries m key) ∙ absent
 
@@ -168,7 +168,7 @@ nothing_once : IsDistinct (eq_by_cmp key_cmp) []
 unfolding IsDistinct
 nothing_once = tt
 
-pub nothing_mapped : {T : Type 0} (index : Indexed) (fed : DefaultHasher) → IsMapped {T = T} [] 0 index fed
+pub nothing_mapped : {T : Type 0} (index : Indexed) (fed : Sip) → IsMapped {T = T} [] 0 index fed
 nothing_mapped {T} index fed = record { counted = refl; distinct = nothing_once; found = λ p key is. absurd (none-some key is) }
 
 -- no keys have no entries

@@ -1,4 +1,5 @@
 pub mod Chunked
+pub mod Hashed
 pub mod Indexed
 pub mod Mapped
 pub mod Rising

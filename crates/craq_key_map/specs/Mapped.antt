@@ -4,9 +4,9 @@ use Rattle.std.specs.List.{IsDistinct}
 use Rattle.std.specs.Option.{option_map}
 use Rattle.std.specs.Ordering.{eq_by_cmp}
 use Rattle.std.specs.FinMap.{entries, from_entries}
-use Rattle.std.specs.declared.hash.DefaultHasher.{DefaultHasher}
-use Rattle.std.specs.Hash.DefaultHasher as sip
 use Rattle.craq_names.specs.Maps.{at_key, key_cmp}
+use Rattle.craq_key_map.specs.declared.sip.Sip.{Sip}
+use Rattle.craq_key_map.specs.Hashed.{digest_of}
 use Rattle.craq_key_map.specs.Indexed.{Indexed, Knows}
 
 -- keys with their items
@@ -33,12 +33,12 @@ pub record AreEntries {T : Type 0} (es : Mapped T) (m : Mapped T) : Type 0 where
 abbrev pub key_of : {T : Type 0} → Mapped T → ℕ → Option (List ℕ)
 key_of m place = option_map (λ e. e.0) (slice_get m place)
 
--- the hash of a key, behind the secret bytes
-abbrev pub hash_of : DefaultHasher → List ℕ → ℕ
-hash_of fed key = sip.finish (sip.write fed key) % 4294967296
+-- the hash of a key, by the secret bytes
+abbrev pub hash_of : Sip → List ℕ → ℕ
+hash_of fed key = digest_of fed key % 4294967296
 
 -- each key is there once, and the index has its place
-pub record IsMapped {T : Type 0} (m : Mapped T) (count : ℕ) (index : Indexed) (fed : DefaultHasher) : Type 0 where
+pub record IsMapped {T : Type 0} (m : Mapped T) (count : ℕ) (index : Indexed) (fed : Sip) : Type 0 where
   pub counted : count ≡ length m
   pub distinct : AreDistinct m
   pub found : (place : ℕ) (key : List ℕ) → key_of m place ≡ Some key → Knows index (hash_of fed key) place

@@ -10,6 +10,7 @@ mod least;
 mod map;
 mod order;
 mod rising;
+mod sip;
 
 pub use entries::Entries;
 pub use map::KeyMap;

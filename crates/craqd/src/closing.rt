@@ -13,8 +13,8 @@ use std::time::{Clock, Duration};
 /// The milliseconds after which requests that still wait are refused once the server is to end.
 const REPLY_MILLISECONDS: u64 = 4_500;
 
-/// The milliseconds in which clients have to take their last replies after that.
-const LAST_MILLISECONDS: u64 = 500;
+/// The milliseconds after which clients that have not taken their replies are cut.
+const GRACE_MILLISECONDS: u64 = 5_000;
 
 /// Reads standard input to its end. A failed read counts as the end.
 fn read_to_end<R: Wait>(rt: &R, input: StdinLock<'static>) {
@@ -37,7 +37,10 @@ fn end_in_order<R: Clock + Wait>(rt: &R, connections: &Connections) {
     connections.end(rt);
     thread::sleep(rt, Duration::from_millis(REPLY_MILLISECONDS));
     connections.time_out(rt);
-    thread::sleep(rt, Duration::from_millis(LAST_MILLISECONDS));
+    thread::sleep(
+        rt,
+        Duration::from_millis(GRACE_MILLISECONDS - REPLY_MILLISECONDS),
+    );
     connections.cut(rt);
 }
 

@@ -17,8 +17,8 @@ CLAIMS = (("Every run is explained", "craq_promise/src/lib.rt", "every_run_is_ex
           ("One list explains a running store's replies", "craq_running_promise/src/lib.rt",
            "strong_replies_are_of_one_copy", ""),
           ("A call's reply is in the history", "craq_workers/src/client.rt", "call", "Client::call"),
-          ("A connection's replies are in the history", "craq_server/src/own_thread.rt",
-           "serve_connection", ""))
+          ("A connection's replies are in the history", "craq_server/src/laws.rt",
+           "connections_are_witnessed", ""))
 
 # The crates that a row of the table of claims names.
 MOST_CRATES = 6

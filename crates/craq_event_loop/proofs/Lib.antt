@@ -5,6 +5,7 @@ pub mod Coming
 pub mod Ending
 pub mod Marks
 pub mod Numbers
+pub mod OwnThread
 pub mod Reaching
 pub mod Rounds
 pub mod Serving

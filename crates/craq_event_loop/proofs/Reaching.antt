@@ -77,6 +77,22 @@ module _ {S T : Type 0} (P : ConnectionState T → Type 0) where
   so_idle : (now idle : ℕ) (s t : Slab (Connection S T)) → EndsIdle now idle s t → AllSo s → AllSo t
   so_idle now idle s t ends all key d here = idle_so now idle (get s key) d (get t key) (ends key) here (all key)
 
+module _ {T R : Type 0} (tells : List ℕ → Type 0) (refuses : Refusing) (submits : Token → Calling T) (finishes : Finishing T R) (first : ConnectionState T) (read written : List ℕ) where
+  abbrev Reached : ConnectionState T → Type 0
+  Reached state = Reaches tells refuses submits finishes first read written state
+
+  steps_reach : (old new : ConnectionState T) (key before count after : ℕ) → TakesSteps tells refuses (under_key submits key) old before count new after → Reached old → Reached new
+  steps_reach old new key before count after taken reached = reaching.steps read written old new key before count after reached taken
+
+  round_reaches : (most : ℕ) (old new : ConnectionState T) (key before after : ℕ) → TakesRound most tells refuses (under_key submits key) old before new after → Reached old → Reached new
+  round_reaches most old new key before after (rests count mid stepped taken last took same) r =
+      steps_reach old new key before (count + 1) after (step count mid new after stepped taken (last_no_call stepped last) took same) r
+  round_reaches most old new key before after (gives_way taken) r = steps_reach old new key before most after taken r
+
+  pub has_round_reaches : (most : ℕ) (over : Bool) (old new : ConnectionState T) (key before after : ℕ) → HasRound most tells refuses (under_key submits key) over old before new after → Reached old → Reached new
+  has_round_reaches most true old new key before after (same, none) r = subst Reached (sym same) r
+  has_round_reaches most false old new key before after round r = round_reaches most old new key before after round r
+
 module _ {T R : Type 0} (is_new : T → Type 0) (tells : List ℕ → Type 0) (refuses : Refusing) (submits : Token → Calling T) (finishes : Finishing T R) where
   abbrev Reachable : ConnectionState T → Type 0
   Reachable state = IsReachable is_new tells refuses submits finishes state
@@ -84,17 +100,9 @@ module _ {T R : Type 0} (is_new : T → Type 0) (tells : List ℕ → Type 0) (r
   same_reachable : (old new : ConnectionState T) → new ≡ old → Reachable old → Reachable new
   same_reachable old new same r = subst Reachable (sym same) r
 
-  steps_reachable : (old new : ConnectionState T) (key before count after : ℕ) → TakesSteps tells refuses (under_key submits key) old before count new after → Reachable old → Reachable new
-  steps_reachable old new key before count after taken (first, fresh, read, written, reached) = (first, fresh, read, written, reaching.steps read written old new key before count after reached taken)
-
-  round_reachable : (most : ℕ) (old new : ConnectionState T) (key before after : ℕ) → TakesRound most tells refuses (under_key submits key) old before new after → Reachable old → Reachable new
-  round_reachable most old new key before after (rests count mid stepped taken last took same) r =
-      steps_reachable old new key before (count + 1) after (step count mid new after stepped taken (last_no_call stepped last) took same) r
-  round_reachable most old new key before after (gives_way taken) r = steps_reachable old new key before most after taken r
-
   has_round_reachable : (most : ℕ) (over : Bool) (old new : ConnectionState T) (key before after : ℕ) → HasRound most tells refuses (under_key submits key) over old before new after → Reachable old → Reachable new
-  has_round_reachable most true old new key before after (same, none) r = same_reachable old new same r
-  has_round_reachable most false old new key before after round r = round_reachable most old new key before after round r
+  has_round_reachable most over old new key before after round (first, fresh, read, written, reached) =
+      (first, fresh, read, written, has_round_reaches tells refuses submits finishes first read written most over old new key before after round reached)
 
   module _ {S : Type 0} where
     completed_reachable : (number : ℕ) (reply : R) (c d : Connection S T) → TakesCompletion finishes number reply c d → Reachable c.state → Reachable d.state

@@ -1,5 +1,6 @@
--- The states that a connection reaches in an event loop.
-use Rattle.std.specs.Prelude.{◌≡◌, ℕ, List, [], ◌++◌, Some}
+-- The states that a connection reaches, in an event loop or on a thread of its own.
+use Rattle.std.specs.Prelude.{◌≡◌, ℕ, true, false, List, [], ◌++◌, Option, Some}
+use Rattle.std.specs.Io.KnownBytes.{Appends, Consumes}
 use Rattle.slab.specs.Slab.{Slab, get}
 use Rattle.craq_completions.specs.declared.token.Token.{Token}
 use Rattle.craq_session.specs.Asking.{Calling, Finishing}
@@ -10,6 +11,7 @@ use Rattle.craq_session.specs.declared.connection_state.Phase.TheVariants as pha
 use Rattle.craq_event_loop.specs.declared.connection.Connection.{Connection}
 use Rattle.craq_event_loop.specs.Advancing.{TakesSteps, under_key}
 use Rattle.craq_event_loop.specs.Belonging.{GetsCompletion, SendsBytes, ReceivesBytes}
+use Rattle.craq_event_loop.specs.Busy.{is_waiting}
 
 -- the first state is that of a new connection, and it reached this one: the bytes `read` came and the bytes `written` went, it took steps
 -- and got the outcomes of its calls by completions, and nothing else happened to it
@@ -23,6 +25,21 @@ pub data Reaches {T R : Type 0} (tells : List ℕ → Type 0) (refuses : Refusin
       → TakesSteps tells refuses (under_key submits key) old before count new after → Reaches tells refuses submits finishes first read written new
   completes : (read written : List ℕ) (old new : ConnectionState T) (reply : R) → Reaches tells refuses submits finishes first read written old
       → GetsCompletion finishes reply old new → Reaches tells refuses submits finishes first read written new
+
+-- the call that is under way came back by a completion; where none is under way nothing changed
+abbrev pub CompletesCall : {T R : Type 0} → Finishing T R → ConnectionState T → ConnectionState T → Type 0
+CompletesCall {R = R} finishes old new =
+    (is_waiting old.phase ≡ true → (reply : R) × GetsCompletion finishes reply old new) × (is_waiting old.phase ≡ false → new ≡ old)
+
+-- a connection goes on: its socket gave the bytes `read` and took the bytes `written`, and what reached its old state reaches its new one
+-- with these bytes too
+pub record ReachesOn {S T R : Type 0} (remaining contents : S → Option (List ℕ)) (tells : List ℕ → Type 0) (refuses : Refusing) (submits : Token → Calling T) (finishes : Finishing T R) (old new : Connection S T) : Type 0 where
+  pub read : List ℕ
+  pub written : List ℕ
+  pub given : Consumes (remaining old.stream) (remaining new.stream) read
+  pub taken : Appends (contents old.stream) (contents new.stream) written
+  pub reaches : (first : ConnectionState T) (came went : List ℕ) → Reaches tells refuses submits finishes first came went old.state
+      → Reaches tells refuses submits finishes first (came ++ read) (went ++ written) new.state
 
 -- a new connection reaches the state, whose session was new in this sense
 abbrev pub IsReachable : {T R : Type 0} → (T → Type 0) → (List ℕ → Type 0) → Refusing → (Token → Calling T) → Finishing T R → ConnectionState T → Type 0

@@ -1,5 +1,5 @@
-//! A connection of an event loop: its socket and its state (`ConnectionState`), and what goes
-//! between them; called by `event_loop`.
+//! A connection: its socket and its state (`ConnectionState`), and what goes between them; called by
+//! `event_loop` and `own_thread`.
 ghost use Rattle.std.specs.Prelude.{◌≡◌, ◌≤◌, ◌<◌, ◌-◌, ◌↔◌, ◌⊎◌, true, false, length, take, not, IsTrue};
 ghost use Rattle.craq_session.specs.declared.connection_state.Phase.TheVariants.{Idle, Waits};
 ghost use Rattle.craq_session.specs.declared.call_request.CallRequest.{CallRequest};
@@ -9,7 +9,9 @@ use crate::backend::{Arrival, LoopBackend};
 use crate::socket::{Moved, Socket};
 use crate::traffic::ClientStream;
 use craq_completions::{Outcome, Token};
-use craq_session::{ConnectionState, Load, ReceiptPolicy, Stepped, UnsentCall};
+use craq_session::{
+    AsyncBackend, BlockingBackend, ConnectionState, Load, ReceiptPolicy, Stepped, UnsentCall,
+};
 use mio::event::Event;
 use mio::unix::SourceFd;
 use mio::{Interest, Registry};
@@ -35,8 +37,8 @@ pub(crate) struct Share {
 struct Readiness {
     /// A read may give bytes, or the end.
     readable: bool,
-    /// Reads go on until one gives nothing: the peer writes no more, or it sent urgent data, before
-    /// which a read stops short.
+    /// Reads go on until one gives nothing: the peer writes no more, it sent urgent data, before
+    /// which a read stops short, or the stream blocks.
     until_dry: bool,
     /// A write may be taken.
     writable: bool,
@@ -61,7 +63,7 @@ impl Readiness {
     }
 }
 
-/// A connection of an event loop.
+/// A connection of an event loop, or of a thread of its own.
 #[derive(Drop)]
 pub(crate) struct Connection<S, T> {
     stream: S,
@@ -95,6 +97,28 @@ pub(crate) fn register(
     let _ = stream.stream.set_nodelay(true);
     let all = Interest::READABLE | Interest::WRITABLE | Interest::PRIORITY;
     registry.register(&mut SourceFd(&stream.stream.as_raw_fd()), token, all)
+}
+
+impl<S: Drop, T> Connection<S, T> {
+    /// Ends the connection and returns its last state.
+    pub(crate) fn into_state(self) -> ConnectionState<T>
+        ensures { result ≡ self.state }
+    {
+        let Connection {
+            stream,
+            state,
+            calls: _,
+            slot: _,
+            receipts: _,
+            readiness: _,
+            heard: _,
+            busy: _,
+            more: _,
+            over: _,
+        } = self;
+        drop(stream);
+        state
+    }
 }
 
 impl<T: Drop> Connection<ClientStream, T> {
@@ -165,6 +189,7 @@ impl<S: Socket, T> Connection<S, T> {
     ghost use Rattle.craq_event_loop.specs.Belonging.{GetsOutcome, SendsBytes, SendsNow, ReceivesBytes, ReceivesNow, KeepsSlot, Reads, TakesCompletion, Writes};
     ghost use Rattle.craq_event_loop.specs.Busy.{GoesOn, IsBehind, IsDone, IsIdle, is_waiting};
     ghost use Rattle.craq_session.specs.Asking.{IsReportable, called_by};
+    ghost use Rattle.craq_event_loop.specs.Reaching.{CompletesCall};
     ghost use Rattle.craq_event_loop.specs.Readiness.{noticed};
     ghost use Rattle.craq_event_loop.specs.Sockets.{EndsAsSocket, EndsInOrder, HasSaidAll, ReadsOn, WritesOn};
 
@@ -173,6 +198,14 @@ impl<S: Socket, T> Connection<S, T> {
         ensures { self.new ≡ record self.old { readiness = noticed self.old.readiness event.now } }
     {
         self.readiness.notice(event);
+    }
+
+    /// Has reads go on until one gives nothing: its stream blocks.
+    pub(crate) fn read_until_dry(&mut self)
+        ensures stream { self.new.stream ≡ self.old.stream }
+        ensures state { self.new.state ≡ self.old.state }
+    {
+        self.readiness.until_dry = true;
     }
 
     /// Returns whether its call is under way: a completion will come.
@@ -223,7 +256,7 @@ impl<S: Socket, T> Connection<S, T> {
     }
 
     /// Returns whether it has work left of which no event and no completion will report.
-    fn is_behind(&self) -> bool
+    pub(crate) fn is_behind(&self) -> bool
         ensures { IsTrue result ↔ IsBehind self.now }
     {
         if self.over {
@@ -370,7 +403,7 @@ impl<S: Socket, T> Connection<S, T> {
     }
 
     /// Takes the outcome of the call that is under way.
-    fn answer<H: LoopBackend>(&mut self, alloc: Global, backend: &H, outcome: Outcome)
+    fn answer<H: AsyncBackend>(&mut self, alloc: Global, backend: &H, outcome: Outcome)
         requires { IsReportable outcome }
         ensures reported { GetsOutcome outcome self.old.state self.new.state }
         ensures session { self.new.state.session ≡ self.old.state.session }
@@ -391,7 +424,7 @@ impl<S: Socket, T> Connection<S, T> {
     /// it by this reply. Another number is ignored: none comes, since a call is asked only once the
     /// one before it has its outcome.
     #[tactic(auto, using(crate::proofs::Advancing::came_by_completion))]
-    pub(crate) fn take_reply<H: LoopBackend<Session = T>>(
+    pub(crate) fn take_reply<H: AsyncBackend<Session = T>>(
         &mut self,
         alloc: Global,
         backend: &H,
@@ -409,10 +442,25 @@ impl<S: Socket, T> Connection<S, T> {
         self.answer(alloc, backend, outcome);
     }
 
+    /// Waits for the completion of the call that is under way, and takes it. Nothing changes where no
+    /// call is under way.
+    #[tactic(auto, using(crate::proofs::OwnThread::own_completion, crate::proofs::OwnThread::no_completion))]
+    pub(crate) fn complete<B: BlockingBackend<Session = T>>(&mut self, alloc: Global, backend: &B)
+        ensures outcome { CompletesCall (B.finishes backend.now) self.old.state self.new.state }
+        ensures stream { self.new.stream ≡ self.old.stream }
+    {
+        if !self.waits() {
+            return;
+        }
+        let reply = backend.wait();
+        let call = self.calls;
+        self.take_reply(alloc, backend, call, reply);
+    }
+
     /// Asks the call that a step made, under this key and the number after that of the call before
     /// it. An outcome at once goes to its state.
     #[tactic(auto, using(crate::proofs::Advancing::nothing_came, crate::proofs::Advancing::came_at_once))]
-    fn submit<H: LoopBackend<Session = T>>(
+    fn submit<H: AsyncBackend<Session = T>>(
         &mut self,
         alloc: Global,
         backend: &H,
@@ -442,7 +490,7 @@ impl<S: Socket, T> Connection<S, T> {
     /// calls are asked under this key, each under the next number. A connection that is over takes
     /// no step.
     #[tactic(auto, using(crate::proofs::Advancing::none_taken, crate::proofs::Advancing::went, crate::proofs::Advancing::called, crate::proofs::Advancing::starved, crate::proofs::Advancing::stayed, crate::proofs::Starved::step_still, crate::proofs::Starved::step_starved))]
-    pub(crate) fn advance<H: LoopBackend<Session = T>>(
+    pub(crate) fn advance<H: AsyncBackend<Session = T>>(
         &mut self,
         alloc: Global,
         backend: &H,

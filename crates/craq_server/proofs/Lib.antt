@@ -1,5 +1,4 @@
 pub mod Floats
 pub mod Reached
 pub mod Sessions
-pub mod Turns
 pub mod Witnessing

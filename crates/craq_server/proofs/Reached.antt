@@ -1,4 +1,4 @@
--- A connection of an event loop, from its first byte on.
+-- A connection, from its first byte on.
 use Rattle.std.proofs.Common.{◌≡◌, ◌≢◌, ◌∙◌, ℕ, List, [], ◌∷◌, ◌++◌, None, Some, Result, Ok, Err, inl, inr, refl, sym, ap, subst, length}
 use Rattle.std.proofs.lemmas.List.{append-nil}
 use Rattle.craq_names.specs.declared.refusal.Refusal.{Refusal}
@@ -10,9 +10,9 @@ use Rattle.craq_front.specs.Talk.{History}
 use Rattle.craq_seat.specs.Calls.{Called}
 use Rattle.craq_session.specs.Asking.{Calling, HasCalled, IsOutcome, IsSubmitted, called_by, directly, by_completion}
 use Rattle.craq_session.specs.ConnectionStates.{AnswersCall, Continues, Found, Holds, Took}
+use Rattle.craq_session.proofs.Halves.{needs_no_call}
 use Rattle.craq_session.specs.Halves.{asked_by}
 use Rattle.craq_session.specs.Turns.{Refusing, for_memory, kept, name_of}
-use Rattle.craq_session.proofs.TwoHalves.{needs_no_call}
 use Rattle.craq_session.specs.declared.calls.DoorCalls.{DoorCalls}
 use Rattle.craq_session.specs.declared.call_request.CallRequest.{CallRequest}
 use Rattle.craq_session.specs.declared.asking.UnsentCall.{UnsentCall}
@@ -24,7 +24,7 @@ use Rattle.craq_session.specs.declared.connection_state.Stepped.{Stepped}
 use Rattle.craq_session.specs.declared.connection_state.Stepped.TheVariants as steps
 use Rattle.craq_event_loop.specs.Advancing.{AsksBackend, IsNoCall, TakesSteps, call, none, step, under_key}
 use Rattle.craq_event_loop.specs.Belonging.{GetsCompletion, SendsBytes, ReceivesBytes}
-use Rattle.craq_event_loop.specs.Reaching.{Reaches, begins, completes, sends, receives}
+use Rattle.craq_event_loop.specs.Reaching.{IsReachable, Reaches, begins, completes, sends, receives}
 use Rattle.craq_event_loop.specs.Reaching as reaching
 use Rattle.craq_workers.specs.Stores.{Stored}
 use Rattle.craq_server.specs.Refusing.{RefusesServed}
@@ -270,3 +270,9 @@ reachable_witnessed store state (first, fresh, read, written, reached) = (
   written,
   reached_witnessed (TellsStatus store) (λ node pass ask e. RefusesServed (length store.names) node ask e) first read written state reached,
 )
+
+-- a connection that came with a new session
+pub served_reachable : (store : Stored) (session : Connected) (state : ConnectionState Connected) → IsNewSession session
+    → IsReachable (λ (s : Connected). s ≡ session) (TellsStatus store) (λ node pass ask e. RefusesServed (length store.names) node ask e) (called_by (λ (token : Token). Submits) FinishesCall) FinishesCall state
+    → IsReachableAt store state
+served_reachable store session state fresh (first, same, read, written, reached) = (first, subst IsNewSession (sym same) fresh, read, written, reached)

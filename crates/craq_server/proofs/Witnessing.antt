@@ -14,7 +14,7 @@ use Rattle.craq_frames.specs.declared.answer.ClientReply.TheVariants as replies
 use Rattle.craq_seat.specs.Calls.{Called}
 use Rattle.craq_session.specs.declared.call_request.CallRequest.{CallRequest}
 use Rattle.craq_session.specs.Asking.{HasCalled, IsSubmitted, directly, by_completion}
-use Rattle.craq_session.specs.Halves.{CanComeBack, EndsTurn, HasAsked, NeedsNoCall, RefusesCall, asked_by, call, nothing, tells_none}
+use Rattle.craq_session.specs.Halves.{CanComeBack, EndsTurn, NeedsNoCall, RefusesCall, asked_by, tells_none}
 use Rattle.craq_session.specs.Turns.{Refusing, IsAnswered, IsCalled, MayReplyRefused, message_of, name_of}
 use Rattle.craq_store_history.specs.declared.entry.CallId.{CallId}
 use Rattle.craq_store_history.specs.declared.entry.Entry.{Entry}
@@ -198,9 +198,3 @@ module _ (tells : List ℕ → Type 0) (refuses : Refusing) (message : ClientMes
   nothing_witnessed (replies.Read pass version value) none same unneeded answered = absurd (no_receipt receipts after answered.0 none answered.1.1)
   nothing_witnessed (replies.Status text) none same unneeded answered = same
   nothing_witnessed (replies.Refused refusal) none same unneeded answered = nothing_refused refusal same unneeded
-
-  -- a turn of a request handler
-  pub turn_witnessed : (reply : ClientReply) → HasAsked Submits FinishesCall message old receipts reply after new → IsAnswered tells refuses receipts message reply after → IsWitnessedTurn old message reply new
-  turn_witnessed reply (nothing none same unneeded) answered = nothing_witnessed reply none same unneeded answered
-  turn_witnessed reply (call q outcome asks named has ends) answered =
-      subst (λ (x : ClientMessage). IsWitnessedTurn old x reply new) (sym asks) (ended_witnessed q old new outcome receipts after named has reply ends)

@@ -5,23 +5,21 @@ ghost use Rattle.craq_server.specs.Sessions.{IsNewSession};
 
 use crate::connections::Connections;
 use crate::counters::Share;
+use crate::incoming::Incoming;
 use crate::io_threads::{EventLoops, serve_by_threads};
 use crate::listening::{Attempt, try_accept, wait_for_connection};
 use crate::logging::Log;
-use crate::metered::Metered;
-use crate::own_thread::serve_connection;
 use crate::passes::Passes;
 use crate::runtime::ServerRuntime;
 use crate::served_store::{ServedStore, StoreOutcome};
 use crate::socket_options::prepare;
 use crate::store_session::StoreSession;
 use craq_completions::CompletionQueue;
-use craq_event_loop::{Arrival, ClientStream};
-use craq_front::Stream;
+use craq_event_loop::{Arrival, ClientStream, serve_one};
 use craq_names::Refusal;
 use craq_node::Core;
 use craq_seat::CallReceipt;
-use craq_session::{CallDoor, ReceiptPolicy};
+use craq_session::ReceiptPolicy;
 use craq_workers::{Gate, Named, Store};
 use std::alloc::{AllocError, Global};
 use std::net::{TcpListener, TcpStream};
@@ -277,40 +275,18 @@ where
         })
     }
 
-    /// Serves a client to the end of its stream, in its session. Returns the receipts of its calls,
-    /// where they are kept.
-    fn serve_client(
-        &self,
-        backend: ServedStore<'_, R, C, G>,
-        session: StoreSession<C>,
-        client: &ClientStream,
-        slot: usize,
-    ) -> Vec<CallReceipt> {
-        let _ = client.stream.set_nodelay(true);
-        set_patience(&client.stream, self.serving.idle);
-        let metered = Metered {
-            stream: &client.stream,
-            traffic: &client.traffic,
-        };
-        let mut reader = Stream::new(metered);
-        let mut writer = Stream::new(metered);
-        let policy = self.serving.receipts;
-        let mut door = CallDoor::new(self.alloc, backend, session, slot, policy);
-        let _ = serve_connection(self.alloc, &mut reader, &mut writer, &mut door);
-        door.calls.into_receipts()
-    }
-
     /// Serves a connection to its end, hands its receipts over and frees its place.
-    fn attend(&self, backend: ServedStore<'_, R, C, G>, arrival: Arrival<StoreSession<C>>) {
-        let Arrival {
-            stream,
-            session,
-            slot,
-            receipts,
-        } = arrival;
-        let calls = self.serve_client(backend, session, &stream, slot);
+    #[tactic(auto, using(crate::proofs::Reached::served_reachable))]
+    fn attend(&self, backend: ServedStore<'_, R, C, G>, incoming: Incoming<C>) {
+        let arrival = incoming.into_arrival();
+        let slot = arrival.slot;
+        let receipts = arrival.receipts;
+        let _ = arrival.stream.stream.set_nodelay(true);
+        set_patience(&arrival.stream.stream, self.serving.idle);
+        let policy = self.serving.receipts;
+        let state = serve_one(&self.rt, self.alloc, &backend, arrival, policy);
+        let calls = backend.end_connection(state);
         self.ended(slot, receipts, calls);
-        drop(stream);
     }
 
     /// Begins a thread that serves a connection. Fails where there is no thread or no memory.
@@ -331,7 +307,8 @@ where
         };
         let completions = CompletionQueue::new(self.alloc, None);
         let backend = self.backend(completions, share)?;
-        let thread = scope.spawn(move || self.attend(backend, arrival))?;
+        let incoming = Incoming::new(arrival);
+        let thread = scope.spawn(move || self.attend(backend, incoming))?;
         drop(thread);
         Ok(())
     }

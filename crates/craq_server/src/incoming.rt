@@ -1,4 +1,5 @@
-//! `Incoming`: a connection that was handed to an event loop, which takes it in; for `io_threads`.
+//! `Incoming`: a connection that was handed to a thread, which takes it in; for `accepting` and
+//! `io_threads`.
 ghost use Rattle.craq_server.specs.Sessions.{IsNewSession};
 
 use crate::store_session::StoreSession;
@@ -6,8 +7,8 @@ use craq_event_loop::{Arrival, ClientStream};
 use craq_workers::Named;
 use std::marker::Model;
 
-/// A connection that was handed to an event loop. No call was made in its session. A contract sees
-/// the session.
+/// A connection that was handed to a thread. No call was made in its session. A contract sees the
+/// session.
 #[derive(Drop)]
 pub(crate) struct Incoming<C: Named> {
     stream: ClientStream,
@@ -45,7 +46,7 @@ impl<C: Named> Incoming<C> {
         }
     }
 
-    /// Returns the connection, for the event loop.
+    /// Returns the connection, for the thread.
     pub(crate) fn into_arrival(self) -> Arrival<StoreSession<C>>
         ensures { IsNewSession result.session }
     {

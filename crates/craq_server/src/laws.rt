@@ -1,4 +1,4 @@
-//! A law: the replies of an event loop's connections stand in the store's history.
+//! A law: the replies of connections stand in the store's history.
 ghost use Rattle.std.specs.Prelude.{ℕ, List, length};
 ghost use Rattle.craq_completions.specs.declared.token.Token.{Token};
 ghost use Rattle.craq_session.specs.Asking.{called_by};
@@ -9,12 +9,12 @@ ghost use Rattle.craq_server.specs.Refusing.{RefusesServed};
 ghost use Rattle.craq_server.specs.Sessions.{Connected, FinishesCall, IsWitnessedConnection, Submits};
 ghost use Rattle.craq_server.specs.Status.{TellsStatus};
 
-/// Law: the turns of a connection of an event loop are witnessed, from its first byte on. `first` is
-/// the state in which it came, and `state` one that it reaches; `read` and `written` are the bytes
-/// that came and went since then. The states of an event loop's connections are all reached so
-/// (`Reaches`), and it hands each that ended to the server so (`LoopBackend::ended`). It has no body:
-/// the contract is the law.
-pub(crate) fn looped_connections_are_witnessed()
+/// Law: the turns of a connection are witnessed, from its first byte on. `first` is the state in
+/// which it came, and `state` one that it reaches; `read` and `written` are the bytes that came and
+/// went since then. The states of an event loop's connections are all reached so (`Reaches`), and it
+/// hands each that ended to the server so (`LoopBackend::ended`). So is the last state of a
+/// connection on a thread of its own (`serve_one`). It has no body: the contract is the law.
+pub(crate) fn connections_are_witnessed()
     ensures { (store : Stored) (read written : List ℕ) (first state : ConnectionState Connected)
         → Reaches (TellsStatus store) (λ node pass ask e. RefusesServed (length store.names) node ask e) (called_by (λ (token : Token). Submits) FinishesCall) FinishesCall first read written state
         → IsWitnessedConnection first.session read written state }

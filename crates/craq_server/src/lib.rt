@@ -11,8 +11,6 @@ mod io_threads;
 mod laws;
 mod listening;
 mod logging;
-mod metered;
-mod own_thread;
 mod passes;
 mod runtime;
 mod served_store;

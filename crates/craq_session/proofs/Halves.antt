@@ -1,5 +1,6 @@
 -- The two halves of a turn: the call that a message asks for, and the reply to its outcome.
-use Rattle.std.proofs.Common.{◌≡◌, ◌↔◌, ◌∙◌, ℕ, List, Result, Ok, Err, IfErr, inl, inr, refl, sym, ap, subst}
+use Rattle.std.proofs.Common.{◌≡◌, ◌↔◌, ◌∙◌, ℕ, List, [], ◌∷◌, ◌++◌, Result, Ok, Err, IfErr, inl, inr, refl, sym, ap, subst}
+use Rattle.std.proofs.lemmas.List.{append-nil, append_cancel_left}
 use Rattle.craq_names.specs.declared.refusal.Refusal.{Refusal}
 use Rattle.craq_names.specs.declared.refusal.Refusal.TheVariants.{Closed, Memory}
 use Rattle.craq_model.specs.declared.ask.Answer.{Answer}
@@ -12,7 +13,7 @@ use Rattle.craq_frames.specs.declared.answer.ClientReply.{ClientReply}
 use Rattle.craq_frames.specs.declared.answer.ClientReply.TheVariants as replies
 use Rattle.craq_seat.specs.Calls.{Called}
 use Rattle.craq_session.specs.declared.call_request.CallRequest.{CallRequest}
-use Rattle.craq_session.specs.Halves.{CanComeBack, EndsTurn, HasOwnReceipt, IsAnothers, IsClosed, IsStatusReply, RefusesCall, asked_by, tells_none}
+use Rattle.craq_session.specs.Halves.{CanComeBack, EndsTurn, HasOwnReceipt, IsAnothers, IsClosed, IsStatusReply, NeedsNoCall, RefusesCall, asked_by, tells_none}
 use Rattle.craq_session.specs.Turns.{message_of, reply_of, name_of, for_memory, Refusing, MayReplyRefused, IsAnswered, IsCalled}
 
 -- no answer is a status, or a refusal
@@ -96,3 +97,15 @@ pub answered_refused : (q : CallRequest) (c : Called) (outcome : Result Called R
 answered_refused q c outcome e x r came can only all is same =
     subst (λ (s : Result ClientReply Refusal). IfErr s (λ y. RefusesCall q outcome y)) (sym (is ∙ ap Err same))
     (subst (λ (o : Result Called Refusal). RefusesCall q o e) (sym came) (can, (only, all)))
+
+no_receipt : (old new : List Called) (c : Called) → new ≡ old → new ≡ old ++ c ∷ [] → ⊥
+no_receipt old new c same more = (let empty : [] ≡ c ∷ [] = append_cancel_left old [] (c ∷ []) (append-nil old ∙ (sym same ∙ more)) in cc)
+
+-- a turn that is over before a call, without one
+pub needs_no_call : (tells : List ℕ → Type 0) (old new : List Called) (m : ClientMessage) (reply : ClientReply) → new ≡ old → IsAnswered tells for_memory old m reply new → NeedsNoCall m reply
+needs_no_call tells old new m (replies.Update pass reply) same h = absurd (no_receipt old new h.0 same h.1.1)
+needs_no_call tells old new m (replies.Read pass version value) same h = absurd (no_receipt old new h.0 same h.1.1)
+needs_no_call tells old new m (replies.Status text) same h = inl h.0
+needs_no_call tells old new (messages.Update node pass update) (replies.Refused refusal) same h = inr (ap replies.Refused h.0)
+needs_no_call tells old new (messages.Read node pass mode object) (replies.Refused refusal) same h = inr (ap replies.Refused h.0)
+needs_no_call tells old new messages.Status (replies.Refused refusal) same h = inl refl

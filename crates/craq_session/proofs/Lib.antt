@@ -4,4 +4,3 @@ pub mod ConnectionStates
 pub mod Halves
 pub mod Receipts
 pub mod Reportable
-pub mod TwoHalves

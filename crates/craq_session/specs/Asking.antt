@@ -28,10 +28,6 @@ Submitting T R = T → CallRequest → Option (Result R Refusal) → T → Type 
 abbrev pub Finishing : Type 0 → Type 0 → Type 1
 Finishing T R = T → CallRequest → R → Result Called Refusal → T → Type 0
 
--- the token of the call of a request handler, which has at most one under way
-abbrev pub only_token : Token
-only_token = record { connection = 0; call = 0 }
-
 -- the immediate reply to a call that was submitted: it, the refusal of a call that was not made, or nothing, where a completion will come
 abbrev pub at_once : {R : Type 0} → Result (Option R) Refusal → Option (Result R Refusal)
 at_once (Ok None) = None

@@ -16,7 +16,6 @@ use Rattle.craq_session.specs.declared.call_request.Demand.{Demand}
 use Rattle.craq_session.specs.declared.call_request.Demand.TheVariants as demands
 use Rattle.craq_session.specs.declared.call_request.Begun.{Begun}
 use Rattle.craq_session.specs.declared.call_request.Begun.TheVariants as begun
-use Rattle.craq_session.specs.Asking.{Finishing, HasCalled, Submitting}
 use Rattle.craq_session.specs.Turns.{message_of, kept, name_of, for_memory, Refusing, IsAnswered, IsStatusRefused, IsTurn}
 
 -- the message that asks for this call
@@ -98,10 +97,3 @@ IsRefusable refuses q outcome = (e : Refusal) → RefusesCall q outcome e → re
 -- a reply without a call: the message asks for the status, or memory is out
 abbrev pub NeedsNoCall : ClientMessage → ClientReply → Type 0
 NeedsNoCall message reply = (message ≡ messages.Status) ⊎ (reply ≡ replies.Refused Memory)
-
--- the session in a turn: no call was made, since none was needed, and no receipt came; or the call of the message was made, and the reply
--- is that of its outcome
-pub data HasAsked {T R : Type 0} (submits : Submitting T R) (finishes : Finishing T R) (message : ClientMessage) (old : T) (receipts : List Called) (reply : ClientReply) (after : List Called) (new : T) : Type 0 where
-  nothing : after ≡ receipts → new ≡ old → NeedsNoCall message reply → HasAsked submits finishes message old receipts reply after new
-  call : (q : CallRequest) (outcome : Result Called Refusal) → message ≡ asked_by q → q.node ≡ name_of q.node.node q.ask
-      → HasCalled submits finishes q old outcome new → EndsTurn q outcome receipts reply after → HasAsked submits finishes message old receipts reply after new

@@ -63,10 +63,6 @@ Refusing = NodeName → ℕ → Ask → Refusal → Type 0
 abbrev pub for_memory : Refusing
 for_memory node pass ask e = e ≡ Memory
 
--- refuses also when out of memory, where this holds
-abbrev pub or_memory_where : Type 0 → Refusing → Refusing
-or_memory_where lacks refuses node pass ask e = ((e ≡ Memory) × lacks) ⊎ refuses node pass ask e
-
 -- a status is refused when out of memory; or as BadFrame, where a text of the store is too long for a reply
 abbrev pub IsStatusRefused : (List ℕ → Type 0) → Refusal → Type 0
 IsStatusRefused tells e = (e ≡ Memory) ⊎ ((e ≡ BadFrame) × ((text : List ℕ) × tells text × (¬ IsAllowed (replies.Status text))))

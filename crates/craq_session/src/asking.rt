@@ -6,9 +6,8 @@ ghost use Rattle.craq_session.specs.Asking.{IsRefusedAtOnce, IsReportable, IsSub
 use crate::{AsyncBackend, CallRequest};
 use craq_completions::{Outcome, Token};
 
-/// A call that a step made (`Stepped::Calls`), or that a `CallDoor` makes and submits at once.
-/// Outside of this crate only `ConnectionState::ask` takes one. It is neither `Copy` nor `Drop`, so
-/// each call that a step made is asked exactly once.
+/// A call that a step made (`Stepped::Calls`). Outside of this crate only `ConnectionState::ask`
+/// takes one. It is neither `Copy` nor `Drop`, so each call that a step made is asked exactly once.
 #[derive(Debug)]
 pub struct UnsentCall {
     _made: (),
@@ -33,10 +32,9 @@ impl UnsentCall {
     }
 }
 
-/// The right to submit a call, with the token of its completion. Only `ConnectionState::ask` and
-/// `CallDoor` make one, each of an `UnsentCall`. It is not `Copy`, and the backend takes it. So no
-/// call is submitted twice, and none that was not made, as long as the backend submits nothing
-/// without one.
+/// The right to submit a call, with the token of its completion. Only `ConnectionState::ask` makes
+/// one, of an `UnsentCall`. It is not `Copy`, and the backend takes it. So no call is submitted
+/// twice, and none that was not made, as long as the backend submits nothing without one.
 #[derive(Debug, Drop)]
 pub struct SubmitToken {
     pub token: Token,

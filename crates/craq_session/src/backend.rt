@@ -87,7 +87,7 @@ pub trait AsyncBackend: Backend {
 }
 
 /// A backend of one connection, which can wait for the completion of its call.
-pub trait BlockingBackend: AsyncBackend + Drop {
+pub trait BlockingBackend: AsyncBackend {
     /// Waits for the completion of the call that was submitted last, and returns its reply.
     fn wait(&self) -> Self::Reply;
 }

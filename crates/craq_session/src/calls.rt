@@ -1,5 +1,5 @@
-//! `DoorCalls`: the receipts of a connection's calls, and the reply to a call; for `door`,
-//! `phases` and `call_request`.
+//! `DoorCalls`: the receipts of a connection's calls, and the reply to a call; for `phases` and
+//! `call_request`.
 ghost use Rattle.std.specs.Prelude.{◌≡◌, ◌≤◌, [], ◌∷◌, ◌++◌, length, vec_capacity, OnOk, OnErr};
 ghost use Rattle.craq_front.specs.Door.{IsAllowed};
 ghost use Rattle.craq_node_invariant.specs.Sound.{IsEncodableAnswer};

@@ -1,5 +1,5 @@
-//! `ConnectionState`: the state of one connection whose calls are answered later; for an event
-//! loop.
+//! `ConnectionState`: the state of one connection whose calls are answered later; for an event loop,
+//! or for a thread of its own.
 ghost use Rattle.std.specs.Prelude.{◌≡◌, None};
 ghost use Rattle.craq_session.specs.declared.connection_state.Phase.TheVariants.{Idle};
 ghost use Rattle.craq_session.specs.ConnectionStates.{KeepsRoom};
@@ -61,8 +61,8 @@ pub enum Stepped {
 
 /// The state of one connection whose calls are answered later: bytes in, calls to make, their
 /// outcomes, bytes out. At most one call is under way. The unsent bytes are the frames of the
-/// replies to the frames that came, in their order. Each reply is that of a turn of a request
-/// handler (`CallDoor`) for its request. All its calls are made and finished in one session.
+/// replies to the frames that came, in their order. Each reply is that of a turn for its request.
+/// All its calls are made and finished in one session.
 #[derive(Drop)]
 pub struct ConnectionState<T> {
     codec: ProtocolCodec,

@@ -2,7 +2,7 @@ use Rattle.std.proofs.Common.{length}
 use Rattle.craq_server.specs.Refusing.{RefusesServed}
 use Rattle.craq_server.specs.Status.{TellsStatus}
 use Rattle.craq_server.proofs.Reached.{reached_witnessed}
-use Rattle.craq_server.proofs.laws.looped_connections_are_witnessed.Goals as goal
+use Rattle.craq_server.proofs.laws.connections_are_witnessed.Goals as goal
 
 pub returns : goal.returns
 returns c store read written first state reached =

@@ -1,0 +1,96 @@
+//! `serve_one`: serves one connection on the calling thread, over a stream that blocks. It drives the
+//! connection of an event loop (`Connection`), which has no others here.
+ghost use Rattle.std.specs.Prelude.{◌≡◌, ◌⊎◌, IsTrue, false};
+ghost use Rattle.craq_session.specs.Asking.{called_by};
+ghost use Rattle.craq_event_loop.specs.Busy.{IsBehind, IsDone, is_waiting};
+ghost use Rattle.craq_event_loop.specs.Reaching.{IsReachable, ReachesOn};
+
+use crate::backend::Arrival;
+use crate::connection::{Connection, Share};
+use crate::socket::Socket;
+use craq_session::{BlockingBackend, ConnectionState, Load, ReceiptPolicy};
+use std::alloc::Global;
+use std::sync::Wait;
+
+/// The most bytes of one read. This project's profile.
+const READ_SIZE: usize = 8_192;
+
+/// The key of the only connection.
+const KEY: usize = 0;
+
+/// The share of the only connection: all steps that there are to take.
+const WHOLE: Share = Share {
+    steps: usize::MAX,
+    load: Load::Single,
+};
+
+impl<S: Socket, T> Connection<S, T> {
+    /// Reads, takes all steps, waits for the call that they made, and writes. No call is under way
+    /// afterwards.
+    #[tactic(auto, using(crate::proofs::OwnThread::on_turn, crate::proofs::OwnThread::written_rests))]
+    fn turn<B: BlockingBackend<Session = T>>(
+        &mut self,
+        alloc: Global,
+        backend: &B,
+        chunk: &mut [u8],
+    )
+        ensures rests { is_waiting self.new.state.phase ≡ false }
+        ensures reaches { ReachesOn S.remaining S.contents (B.tells backend.now) (B.refuses backend.now) (called_by (B.submits backend.now) (B.finishes backend.now)) (B.finishes backend.now) self.old self.new }
+    {
+        self.read(alloc, chunk, 0);
+        self.advance(alloc, backend, KEY, WHOLE);
+        self.complete(alloc, backend);
+        self.give(0);
+    }
+
+    /// Returns whether nothing is left to do: it is done, or its stream gives or takes nothing.
+    #[tactic(auto, using(crate::proofs::OwnThread::ended_done, crate::proofs::OwnThread::ended_still))]
+    fn has_ended(&self) -> bool
+        ensures { IsTrue result → IsDone self.now ⊎ (¬ IsBehind self.now) }
+    {
+        if self.is_done() {
+            return true;
+        }
+        !self.is_behind()
+    }
+
+    /// Serves the connection until it is done, or its stream gives or takes nothing for longer than
+    /// it waits. What it had reached before it reaches with the bytes that its socket gave and took.
+    #[tactic(auto, using(crate::proofs::OwnThread::on_as_before, crate::proofs::OwnThread::on_then))]
+    pub(crate) fn serve<R: Wait, B: BlockingBackend<Session = T>>(
+        &mut self,
+        rt: &R,
+        alloc: Global,
+        backend: &B,
+    )
+        ensures reaches { ReachesOn S.remaining S.contents (B.tells backend.now) (B.refuses backend.now) (called_by (B.submits backend.now) (B.finishes backend.now)) (B.finishes backend.now) self.old self.new }
+        ensures rests { is_waiting self.new.state.phase ≡ false }
+        ensures ended { IsDone self.new ⊎ (¬ IsBehind self.new) }
+    {
+        self.read_until_dry();
+        let mut chunk = [0u8; READ_SIZE];
+        for _ in rt.forever() {
+            self.turn(alloc, backend, &mut chunk);
+            if self.has_ended() {
+                return;
+            }
+        }
+    }
+}
+
+/// Serves a connection on the calling thread to its end, with the policy for its receipts. Returns
+/// its last state, which a new connection with its session reached (`Reaches`).
+#[tactic(auto, using(crate::proofs::OwnThread::from_new))]
+pub fn serve_one<R: Wait, B: BlockingBackend>(
+    rt: &R,
+    alloc: Global,
+    backend: &B,
+    arrival: Arrival<B::Session>,
+    policy: ReceiptPolicy,
+) -> ConnectionState<B::Session>
+    ensures { IsReachable (λ session. session ≡ arrival.session) (B.tells backend.now) (B.refuses backend.now) (called_by (B.submits backend.now) (B.finishes backend.now)) (B.finishes backend.now) result }
+{
+    let mut connection = Connection::new(alloc, arrival, policy, 0);
+    connection.serve(rt, alloc, backend);
+    connection.into_state()
+}

@@ -21,6 +21,7 @@ ghost use Rattle.craq_compact_history.specs.Counted.{AreWritten, bytes_in, first
 ghost use Rattle.craq_compact_history.specs.Others.{is_of};
 ghost use Rattle.craq_compact_history.specs.Stored.{stored};
 
+use crate::later::version_past;
 use craq_client_index::ClientIndex;
 use craq_commands::{Entry, Kept, RequestStatus, State, Write, look_in};
 use craq_compact_state::{HeldPast, Lookup};
@@ -189,8 +190,8 @@ impl CompactingHistory {
     fn version_later(&self, later: &[Entry], key: &Key) -> Version
         ensures { result ≡ version_of (after_entries (newest_in (⟦<CompactingHistory as History>⟧.past self.now)) later.now).objects key.now }
     {
-        let (newest, bytes) = self.newest(key);
-        object_past(newest, bytes, later, key).0
+        let (newest, _) = self.newest(key);
+        version_past(newest, later, key)
     }
 
     /// Returns true only if no entry in memory is of the client. Its window is then that of the

@@ -8,6 +8,7 @@ ghost use Rattle.craq_compact_history.specs.Forgotten.{DiffersInSettled};
 
 mod figures;
 mod history;
+mod later;
 
 use craq_node::{Core, NodeCore};
 pub use figures::{NodeFigures, figures_of};

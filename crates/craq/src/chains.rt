@@ -101,6 +101,16 @@ pub fn id_of_name(chains: &[Chain], name: &str) -> Result<ChainId, Failure> {
     Err(Failure::Refused(Refusal::UnknownChain))
 }
 
+/// Returns the chain with this id; `Refused` with `UnknownChain` if there is none.
+pub fn chain_of_id(chains: Vec<Chain>, id: ChainId) -> Result<Chain, Failure> {
+    for chain in chains {
+        if chain.id == id {
+            return Ok(chain);
+        }
+    }
+    Err(Failure::Refused(Refusal::UnknownChain))
+}
+
 /// Returns the members of the chain with this id, head first; `Refused` with `UnknownChain` if
 /// there is none.
 pub fn members_of(chains: &[Chain], id: ChainId) -> Result<&[NodeId], Failure> {

@@ -2,7 +2,7 @@
 //! `people`.
 use crate::asking::{Target, answered, known_chains};
 use crate::bench::microseconds;
-use crate::chains::members_of;
+use crate::chains::{Chain, chain_of_id};
 use crate::fault::{Fault, NO_CONNECTION, REFUSED};
 use crate::link::{Failure, Link};
 use crate::output::{health_json, member_line, update_line};
@@ -176,14 +176,13 @@ where
     }
 }
 
-/// Returns the members of the target's chain. Asks for them until they come or the target's deadline.
-fn members<R>(rt: &R, link: &mut Link<'_>, target: &Target) -> Result<Vec<NodeId>, Failure>
+/// Returns the target's chain. Asks for the chains until they come or the target's deadline.
+fn known_chain<R>(rt: &R, link: &mut Link<'_>, target: &Target) -> Result<Chain, Failure>
 where
     R: AllocGlobal + Clock + Wait + Net<Listener = TcpListener, Stream = TcpStream>,
 {
     let chains = known_chains(rt, link, target.deadline)?;
-    let members = members_of(chains.as_slice(), target.chain)?;
-    Ok(Vec::from_slice(rt.alloc(), members)?)
+    chain_of_id(chains, target.chain)
 }
 
 /// Returns the time by the clock of the system.
@@ -270,18 +269,40 @@ fn has_stopped(members: &[(NodeId, Seen)]) -> bool {
         .any(|member| matches!(member.1, Seen::Stopped))
 }
 
-/// Says which members are to be removed.
-fn advise<R: AllocGlobal + Eprint>(rt: &R, members: &[(NodeId, Seen)]) -> Result<(), Fault> {
+/// Returns true if the member is stopped or not ready.
+fn is_unready(member: &(NodeId, Seen)) -> bool {
+    matches!(member.1, Seen::Stopped | Seen::Refused(Refusal::NotReady))
+}
+
+/// Says which members of the chain of this name are to be removed.
+fn advise_removals<R>(rt: &R, name: &str, members: &[(NodeId, Seen)]) -> Result<(), Fault>
+where
+    R: AllocGlobal + Eprint,
+{
     for (node, seen) in members {
         if matches!(seen, Seen::Stopped) {
             let node = node.get();
             let text = format!(in rt.alloc();
-                "remove the stopped node {node}: updates wait until then"
+                "remove the stopped node {name}/{node}: updates wait until then"
             )?;
             tell(rt, text.as_str())?;
         }
     }
     Ok(())
+}
+
+/// Says what to do about stopped members of the chain of this name.
+fn advise<R>(rt: &R, name: &str, members: &[(NodeId, Seen)]) -> Result<(), Fault>
+where
+    R: AllocGlobal + Eprint,
+{
+    if !members.iter().all(is_unready) {
+        return advise_removals(rt, name, members);
+    }
+    let text = format!(in rt.alloc();
+        "no ready member of chain {name} runs, and its data is lost: start the server again"
+    )?;
+    tell(rt, text.as_str())
 }
 
 /// Returns the status by what was seen of the members.
@@ -303,22 +324,22 @@ fn status_of(members: &[(NodeId, Seen)]) -> u8 {
 }
 
 /// Times the update unless a member is stopped, behind which it would wait, and prints the rest of
-/// what was seen. Returns the status.
+/// what was seen of the members of the chain of this name. Returns the status.
 fn finish<R>(
     rt: &R,
     link: &mut Link<'_>,
     target: &mut Target,
     client: u64,
-    seen: (&[(NodeId, Seen)], OutputForm),
+    seen: (&str, &[(NodeId, Seen)], OutputForm),
 ) -> Result<u8, Fault>
 where
     R: AllocGlobal + Print + Eprint + Clock + Wait,
     R: Net<Listener = TcpListener, Stream = TcpStream>,
 {
-    let (members, form) = seen;
+    let (name, members, form) = seen;
     if has_stopped(members) {
         print_update(rt, target, members, None, form)?;
-        advise(rt, members)?;
+        advise(rt, name, members)?;
         return Ok(status_of(members));
     }
     match update_time(rt, link, target, client) {
@@ -348,12 +369,15 @@ where
     R: AllocGlobal + Print + Eprint + Clock + Wait,
     R: Net<Listener = TcpListener, Stream = TcpStream>,
 {
-    let members = match members(rt, link, target) {
-        Ok(members) => members,
+    let chain = match known_chain(rt, link, target) {
+        Ok(chain) => chain,
         Err(failure) => return report_failure(rt, link, failure),
     };
-    match look_at_all(rt, link, target, members.as_slice(), form)? {
-        Ok(seen) => finish(rt, link, target, client, (seen.as_slice(), form)),
+    match look_at_all(rt, link, target, chain.members.as_slice(), form)? {
+        Ok(seen) => {
+            let seen = (chain.name.as_str(), seen.as_slice(), form);
+            finish(rt, link, target, client, seen)
+        }
         Err(failure) => report_failure(rt, link, failure),
     }
 }

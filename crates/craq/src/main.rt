@@ -18,6 +18,7 @@ mod quoting;
 mod reporting;
 mod session;
 mod shell;
+mod streams;
 mod tally;
 mod timed;
 mod watch;
@@ -27,8 +28,8 @@ use bench::Progress;
 use calling::{Asker, Shown, explain, shown_over};
 use chains::members_of;
 use craq_cli::{
-    CallLine, CommandFault, Request, Task, VerbLine, has_raw_bytes, raw_words_of, report_failure,
-    report_memory, report_no_text, report_words, words_of,
+    BAD_INPUT, CallLine, CommandFault, Request, Task, VerbLine, has_raw_bytes, raw_words_of,
+    report_failure, report_memory, report_no_text, report_words, words_of,
 };
 use craq_names::{ChainId, NodeId};
 use deadline::Deadline;
@@ -48,6 +49,7 @@ use std::rt::Files;
 use std::sync::Wait;
 use std::thread::Threads;
 use std::time::Clock;
+use streams::placeholders;
 use watch::Watched;
 
 /// Asks once, and prints the answer with its pass on a line of its own, or the refusal. Returns the
@@ -281,6 +283,21 @@ where
     }
 }
 
+/// The help of a command line without words.
+const SHORT_HELP: [&str; 2] = ["craq", "-h"];
+
+/// Prints the short help on standard error: the command line has no word. Returns the status.
+fn report_no_words<R: AllocGlobal + Print + Eprint>(rt: &R) -> io::Result<u8> {
+    match CallLine::read(rt.alloc(), &SHORT_HELP) {
+        Err(CommandFault::Words(help)) => {
+            eprint!(rt; "{help}")?;
+            Ok(BAD_INPUT)
+        }
+        Err(fault) => report_unread(rt, &fault),
+        Ok(_) => Ok(BAD_INPUT),
+    }
+}
+
 /// Does what the command line asks for. The words of a verb for people are any bytes, those of
 /// other commands are text. Returns the status.
 fn run<R>(rt: R, terminals: Terminals) -> io::Result<u8>
@@ -289,6 +306,10 @@ where
     R: Net<Listener = TcpListener, Stream = TcpStream> + Copy + Drop + Send + Sync + 'static,
 {
     let words = raw_words_of(&rt)?;
+    if words.len() <= 1 {
+        drop(words);
+        return report_no_words(&rt);
+    }
     let is_raw = words.iter().any(|word| has_raw_bytes(word.as_str()));
     if is_raw && is_person(&rt, words.as_slice())? {
         return run_texts(rt, terminals, words.as_slice());
@@ -298,13 +319,16 @@ where
 }
 
 fn main(rt: HostRuntime) -> ExitCode {
+    let opened = placeholders(&rt);
     let terminals = Terminals {
         input: rt.stdin().is_terminal(),
         output: rt.stdout().is_terminal(),
         errors: rt.stderr().is_terminal(),
     };
-    match run(rt, terminals) {
-        Ok(status) => ExitCode::from(status),
-        Err(error) => ExitCode::from(report_failure(&rt, error.kind(), REFUSED)),
-    }
+    let status = match run(rt, terminals) {
+        Ok(status) => status,
+        Err(error) => report_failure(&rt, error.kind(), REFUSED),
+    };
+    drop(opened);
+    ExitCode::from(status)
 }

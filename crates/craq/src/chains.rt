@@ -3,10 +3,14 @@ use crate::deadline::Deadline;
 use crate::link::{Failure, Link};
 use craq_frames::{ClientMessage, ClientReply};
 use craq_names::{ChainId, NodeId, Refusal};
+use craq_script::number_up_to;
 use serde_json::Value;
 use std::alloc::Global;
 use std::net::{Net, TcpListener, TcpStream};
 use std::time::Clock;
+
+/// The greatest id of a chain.
+const GREATEST_CHAIN: u64 = 65535;
 
 /// A chain.
 #[derive(Debug, Drop)]
@@ -91,14 +95,18 @@ where
     }
 }
 
-/// Returns the id of the chain of this name; `Refused` with `UnknownChain` if there is none.
-pub fn id_of_name(chains: &[Chain], name: &str) -> Result<ChainId, Failure> {
+/// Returns the id of the chain of this name or, if none has that name, the id that the word is;
+/// `Refused` with `UnknownChain` if it is neither.
+pub fn id_of_word(chains: &[Chain], word: &str) -> Result<ChainId, Failure> {
     for chain in chains {
-        if chain.name.as_str() == name {
+        if chain.name.as_str() == word {
             return Ok(chain.id);
         }
     }
-    Err(Failure::Refused(Refusal::UnknownChain))
+    match number_up_to(GREATEST_CHAIN, word.as_bytes()) {
+        Ok(id) => Ok(ChainId::new(id as u16)),
+        Err(_) => Err(Failure::Refused(Refusal::UnknownChain)),
+    }
 }
 
 /// Returns the chain with this id; `Refused` with `UnknownChain` if there is none.

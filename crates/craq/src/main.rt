@@ -283,7 +283,10 @@ where
     }
 }
 
-/// The help of a command line without words.
+/// The words that ask for the long help.
+const LONG_HELP: [&str; 2] = ["craq", "--help"];
+
+/// The words that ask for the short help.
 const SHORT_HELP: [&str; 2] = ["craq", "-h"];
 
 /// Prints the short help on standard error: the command line has no word. Returns the status.
@@ -298,6 +301,14 @@ fn report_no_words<R: AllocGlobal + Print + Eprint>(rt: &R) -> io::Result<u8> {
     }
 }
 
+/// Returns true for the words `craq help`.
+fn asks_help(words: &[String]) -> bool {
+    match words {
+        [_, word] => word.as_str() == "help",
+        _ => false,
+    }
+}
+
 /// Does what the command line asks for. The words of a verb for people are any bytes, those of
 /// other commands are text. Returns the status.
 fn run<R>(rt: R, terminals: Terminals) -> io::Result<u8>
@@ -309,6 +320,10 @@ where
     if words.len() <= 1 {
         drop(words);
         return report_no_words(&rt);
+    }
+    if asks_help(words.as_slice()) {
+        drop(words);
+        return run_words(rt, terminals, &LONG_HELP);
     }
     let is_raw = words.iter().any(|word| has_raw_bytes(word.as_str()));
     if is_raw && is_person(&rt, words.as_slice())? {

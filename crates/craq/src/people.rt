@@ -2,7 +2,7 @@
 //! called by `main` and `shell`.
 use crate::asking::{Target, Unanswered, answered, known_chains};
 use crate::calling::message_in;
-use crate::chains::id_of_name;
+use crate::chains::id_of_word;
 use crate::deadline::Deadline;
 use crate::fault::Fault;
 use crate::health::{OutputForm, examine};
@@ -18,7 +18,6 @@ use craq_cli::{
 use craq_commands::Reply;
 use craq_frames::ClientReply;
 use craq_names::{ChainId, ClientId, NodeId, Pass, Refusal};
-use craq_script::number_up_to;
 use std::alloc::{AllocError, Global};
 use std::env::Env;
 use std::io::Read;
@@ -552,7 +551,7 @@ where
     examined
 }
 
-/// Returns the chain that the options name, by number or by name.
+/// Returns the chain that the options name, by name or by number; chain 0 if they name none.
 fn chain_of<R>(rt: &R, link: &mut Link<'_>, words: Words<'_>) -> Result<ChainId, Failure>
 where
     R: AllocGlobal + Clock + Wait + Net<Listener = TcpListener, Stream = TcpStream>,
@@ -560,11 +559,8 @@ where
     let Some(name) = words.line.options.chain else {
         return Ok(ChainId::new(0));
     };
-    if let Ok(id) = number_up_to(65535, name.as_bytes()) {
-        return Ok(ChainId::new(id as u16));
-    }
     let chains = known_chains(rt, link, words.deadline)?;
-    id_of_name(chains.as_slice(), name)
+    id_of_word(chains.as_slice(), name)
 }
 
 /// Runs a verb whose words were checked. Returns the status.

@@ -422,15 +422,45 @@ def members(checks):
         checks.same("where it went", server.asked[-1].node, 3)
 
 
+MISMATCH = b"\x01\x01" + number(8, 5) + b"\x02" + bytes(8)
+
+
 def health(checks):
-    """Health asks a TestAndSet that writes nothing at the head, and a read at each member."""
-    with Played(status(2, 1), b"\x01\x01" + number(8, 1) + b"\x02" + bytes(8), read(2, 0, b""),
-                read(3, 0, b"")) as server, store_of(server) as store:
-        found = store.health()
-        checks.same("the nodes that are asked", [it.node for it in server.asked[1:]], [2, 2, 1])
+    """Health asks a read at each member, and then a TestAndSet that writes nothing at the head."""
+    with Played(status(2, 1), read(2, 0, b""), read(3, 0, b""),
+                MISMATCH) as server, store_of(server) as store:
+        seen = []
+        found = store.health(seen=lambda *it: seen.append(it))
+        checks.same("the nodes that are asked", [it.node for it in server.asked[1:]], [2, 1, 2])
         checks.that(found.update > 0 and list(found.reads) == [2, 1], f"seconds: {found}")
-        checks.that(server.asked[1].payload.endswith(b"\xff" * 8 + bytes(2)),
+        checks.same("what is told at once", seen, list(found.reads.items()))
+        checks.that(server.asked[3].payload.endswith(b"\xff" * 8 + bytes(2)),
                     "the version that no object has")
+    with Played(status(1, 2), refused(wire.NOT_READY), read(3, 0, b""), MISMATCH) as server:
+        with store_of(server) as store:
+            found = store.health()
+            checks.same("a member that is not ready", (list(found.failed), list(found.reads)), ([1], [2]))
+            checks.that(found.update and not found.is_lost(), f"the update beside it: {found}")
+    with Played(status(1, 2), read(3, 0, b""), refused(wire.STOPPED)) as server, store_of(server) as store:
+        found = store.health()
+        checks.same("a stopped member", (found.stopped(), found.update, found.is_lost()), ([2], None, False))
+        checks.same("what is asked beside it", kinds(server), [wire.STATUS, wire.READ, wire.READ])
+    with Played(status(1), read(3, 0, b""), written(5, 1)) as server, store_of(server) as store:
+        found = store.health()
+        checks.same("an update that fails", (found.update, type(found.fault)), (None, BadReply))
+    with Played(status(1), CLOSES) as server, store_of(server) as store:
+        checks.same("a server that is gone", fault_of(store.health), "ConnectionError")
+
+
+def names_first(checks):
+    """A text names a chain by its name or, if none has it, by its number."""
+    chains = [{"epoch": 1, "members": [1], "name": "1"}, {"epoch": 1, "members": [2], "name": "0"},
+              {"epoch": 1, "members": [3], "name": "c"}]
+    text = json.dumps({"chains": chains}).encode()
+    with Played(b"\x01\x04" + number(4, len(text)) + text) as server, store_of(server) as store:
+        checks.same("chains by texts", [store.chain_id(it) for it in ("1", "0", "2", "c")], [0, 1, 2, 2])
+        checks.same("chains by numbers", [store.chain_id(it) for it in (1, 0, 2)], [1, 0, 2])
+        checks.same("no chain", [fault_of(store.chain_id, it) for it in ("3", "02")], [(7, 0)] * 2)
 
 
 def defaults(checks):
@@ -477,8 +507,9 @@ def ran(server, *words, given=b""):
     out, err = io.TextIOWrapper(io.BytesIO(), encoding="utf-8"), io.StringIO()
     before, sys.stdin = sys.stdin, io.TextIOWrapper(io.BytesIO(given))
     try:
-        with contextlib.redirect_stdout(out), contextlib.redirect_stderr(err):
-            ended = command.main(["--connect", server.address, "--client", "7", *words])
+        with (contextlib.redirect_stdout(out), contextlib.redirect_stderr(err),
+              environment(CRAQ_CLIENT="7")):
+            ended = command.main(["--connect", server.address, *words])
             out.flush()
     finally:
         sys.stdin = before
@@ -514,6 +545,18 @@ COMMANDS = [
     (["members"], [], 0, b"a: 1 2\n"),
     (["members", "--json"], [], 0,
      b'{"chains": [{"id": 0, "name": "a", "epoch": 1, "members": [1, 2]}], "pass": 0}\n'),
+    (["get", "k", "--json", "--hex"], [read(5, 1, b"blue")], 0,
+     b'{"reply": "read", "version": 1, "value_hex": "626c7565", "pass": 5}\n'),
+    (["get", "k", "--json", "--decimal"], [read(5, 1, number(8, 258))], 0,
+     b'{"reply": "read", "version": 1, "number": 258, "pass": 5}\n'),
+    (["health"], [read(5, 0, b""), read(5, 0, b""), MISMATCH], 0,
+     b"node 1 N ms\nnode 2 N ms\nupdate N ms\n"),
+    (["health"], [read(5, 0, b""), refused(wire.STOPPED)], 3,
+     b"node 1 N ms\nnode 2 stopped\nupdate not tried\n"),
+    (["health"], [refused(wire.STOPPED), refused(wire.NOT_READY)], 3,
+     b"node 1 stopped\nnode 2 refused 10 NotReady: the node is not ready yet\nupdate not tried\n"),
+    (["health", "--json"], [read(5, 0, b""), refused(wire.STOPPED)], 3,
+     b'{"update_seconds": null, "read_seconds": {"1": N}, "failed": {"2": "stopped"}, "pass": 5}\n'),
     (["get", "k", "--chain", "b"], [], 3, b""),
     (["add", "k", "2"], [refused(15)], 3, b""),
     (["get", "k"], [b"\x01\x09"], 4, b""),
@@ -524,7 +567,28 @@ WRONG = (["fetch", "k"], ["set", "k"], ["set", "k", "a", "b"], ["get", "k", "--m
          ["set", "", "a"], ["set", "k" * 129, "a"],
          ["set", "k", "v" * 4097], ["txn"], ["txn", "x:k"], ["txn", "r:k:1"], ["txn", "r:k", "r:k"],
          ["cas", "k", "a"], ["set", "k", "a", "--number", "0"], ["members", "extra"],
-         ["health", "--node", "1"], ["set", "k", "0G", "--hex"], ["set", "k", "0A", "--hex"])
+         ["set", "k", "0G", "--hex"], ["set", "k", "0A", "--hex"],
+         ["set", "k", "x", "--decimal"], ["set", "k", "05", "--decimal"],
+         ["set", "k", str(2 ** 64), "--decimal"], ["txn", "w:k:-", "--decimal"],
+         ["set", "k", "5", "--hex", "--decimal"], ["get", "k", "--json", "--json"],
+         ["get", "k", "--node", "1", "--node=1"], ["get", "k", "--chain", "--json"], ["set", "k", "-v"],
+         *([verb, *words, *it.split()] for verb, words, options in (
+             ("set", ["k", "v"], ["--mode eventual"]), ("txn", ["r:k"], ["--mode strong"]),
+             ("add", ["k"], ["--mode strong", "--hex", "--decimal"]), ("sub", ["k"], ["--hex"]),
+             ("get", ["k"], ["--client 7", "--number 7"]),
+             ("members", [], ["--node 1", "--chain a", "--mode strong", "--client 7", "--number 7", "--hex",
+                              "--decimal", "--print-pass"]),
+             ("health", [], ["--node 1", "--mode strong", "--number 7", "--hex", "--decimal",
+                             "--print-pass"])) for it in options))
+# Values by their forms: the words of `set k`, what is entered, and the bytes that are written.
+VALUES = [
+    (["-"], b"a\nb\0", b"a\nb\0"), (["00ff", "--hex"], b"", b"\0\xff"), (["-", "--hex"], b"00ff", b"\0\xff"),
+    (["5", "--decimal"], b"", number(8, 5)), (["-", "--decimal"], b"258", number(8, 258)),
+    (["--", "-v"], b"", b"-v"),
+]
+# Standard error of `health` at a chain with stopped members: it goes on, or is lost.
+ADVICE = "jilsdau: remove the stopped node a/2: updates wait until then\n"
+LOST = "jilsdau: no ready member of chain a runs, and its data is lost: start the server again\n"
 
 
 def commands(checks):
@@ -533,6 +597,8 @@ def commands(checks):
         named = words[:2] == ["--node", "1"]
         with Played(*([] if named else [status(1, 2)]), *replies) as server:
             ended, out, err = ran(server, *words)
+            if "health" in words:
+                out = re.sub(rb"[0-9]+\.[0-9]+(e-[0-9]+)?", b"N", out)
             checks.same(" ".join(words), (ended, out), (status_wanted, wanted))
             checks.same(f"whether {' '.join(words)} tells a fault", bool(err), status_wanted in (3, 4, 6))
     for words in WRONG:
@@ -541,10 +607,21 @@ def commands(checks):
             checks.same(f"{' '.join(words)[:40]}", (ended, out, server.connections), (2, b"", 0))
             checks.that(err.startswith("jilsdau: ") and "--help" in err,
                         f"what it tells of {words}: {err[:100]}")
+    for words, given, wanted in VALUES:
+        with Played(status(1), written(5, 1)) as server:
+            checks.same(f"a value {words} of {given}", ran(server, "set", "k", *words, given=given)[:2],
+                        (0, b"written 1\n"))
+            checks.that(server.asked[1].payload.endswith(value_bytes(wanted)), f"what {words} sends")
     with Played(status(1), written(5, 1)) as server:
-        checks.same("a value of standard input", ran(server, "set", "k", "-", given=b"a\nb\0")[:2],
-                    (0, b"written 1\n"))
-        checks.that(server.asked[1].payload.endswith(value_bytes(b"a\nb\0")), "the value that was sent")
+        ran(server, "txn", "w:k:7", "w:l:8", "--decimal")
+        checks.that(server.asked[1].payload.endswith(value_bytes(number(8, 8))), "numbers of a transaction")
+    with Played(status(1), written(5, 1)) as server:
+        ran(server, "txn", "w:k:-", given=b"v")
+        checks.that(server.asked[1].payload.endswith(value_bytes(b"-")), "a - in a transaction is itself")
+    for replies, wanted in ([read(5, 0, b""), refused(wire.STOPPED)], ADVICE), (
+            [refused(wire.STOPPED), refused(wire.NOT_READY)], LOST):
+        with Played(status(1, 2), *replies) as server:
+            checks.same("what health tells of stopped members", ran(server, "health")[2], wanted)
     told = command.__doc__
     checks.same("verbs of the help", sorted(set(re.findall(r"^  ([a-z]+) ", told, re.M))),
                 sorted(command.VERBS))
@@ -585,9 +662,29 @@ def asked_again(checks):
         checks.that(len(asked) == 2 and asked[0].payload == asked[1].payload, "it asks the same")
 
 
+def closed_streams(checks):
+    """Closed and broken standard streams: an exit status, no traceback, and no byte of them to the server."""
+    program = f"{sys.executable} -B {repository.path('clients/python/jilsdau')} --client 7"
+    for words, replies, wanted in (("set k v >&-", [written(5, 1)], 1), ("set k v 2>&-", [written(5, 1)], 0),
+                                   ("set k v <&-", [written(5, 1)], 0), ("set k - <&-", [], 1),
+                                   ("set k v <&- >&- 2>&-", [written(5, 1)], 1), ("help >&-", None, 1),
+                                   ("set k v | true", [written(5, 1)], 1), ("help | true", None, 1)):
+        with Played(*([status(1), *replies] if replies else [])) as server:
+            line = f"set -o pipefail; sleep 0 | {program} --connect {server.address} {words}"
+            if replies is None:
+                line = f"set -o pipefail; python3 -B {repository.path('clients/python/jilsdau')} {words}"
+            if "| true" in line:
+                line = line.replace("| true", "| (exec <&-; sleep 1)")
+            ended = subprocess.run(["bash", "-c", line], capture_output=True, timeout=PATIENCE)
+            checks.same(f"{words}: its end", ended.returncode, wanted)
+            checks.that(b"Traceback" not in ended.stderr, f"{words}: {ended.stderr}")
+            checks.same(f"{words}: what was asked", kinds(server),
+                        [wire.STATUS, wire.UPDATE] if replies else [])
+
+
 PARTS = (numbers, lost_replies, passing_refusals, lasting_refusals, bad_words, named_nodes, tries, deadlines,
          passes, bad_replies, several, updates_together, stale_numbers,
-         threads, members, health, defaults, commands, left_open, asked_again)
+         threads, members, health, names_first, defaults, commands, left_open, asked_again, closed_streams)
 
 
 def tried(checks):

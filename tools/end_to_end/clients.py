@@ -261,7 +261,7 @@ COMMANDS = [
     (["set", "worded", "red", "--node", "3"], 3, "jilsdau: refused 9 NotHead 1: updates go to the head, node 1\n"),
     (["--chain", "9", "get", "worded"], 3, "jilsdau: refused 7 UnknownChain: there is no such chain\n"),
     (["members"], 0, "a: 1 2 3\nb: 4 5\n"),
-    (["health", "--chain", "b"], 0, "update N ms\nnode 4 N ms\nnode 5 N ms\n"),
+    (["health", "--chain", "b"], 0, "node 4 N ms\nnode 5 N ms\nupdate N ms\n"),
 ]
 
 
@@ -269,7 +269,7 @@ def worded(checks, server):
     """Runs the command of clients/python. Its answer is on standard output, a refusal on standard error."""
     for words, wanted_status, wanted in COMMANDS:
         server.counts()
-        status, out, err = running.ended([sys.executable, COMMAND, "--connect", server.address, "--client", str(CLIENT), *words])
+        status, out, err = running.ended(["env", f"CRAQ_CLIENT={CLIENT}", sys.executable, COMMAND, "--connect", server.address, *words])
         found = re.sub('(pass|ms|update|node [0-9]+|"pass":) [0-9.]+', r"\1 N", out + err)
         checks.same(" ".join(words), (status, found), (wanted_status, wanted))
     server.answers(0, 9)

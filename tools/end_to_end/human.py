@@ -9,6 +9,8 @@ import sys
 import tempfile
 import threading
 
+from jilsdau import wire
+
 from tools import repository
 from tools.end_to_end import running
 
@@ -70,12 +72,8 @@ ROWS = [
     ("set colour grey --node 3", 3, "", "craq: refused 9 1: updates go to the head of the chain, node 1\n"),
     ("get colour --node 9", 3, "",
      "craq: refused 23: there is no such node here\n"),
-    ("--chain 9 get colour", 3, "", "craq: refused 7: there is no such chain\n"),
+    *((f"--chain {it} get colour", 3, "", "craq: refused 7: there is no such chain\n") for it in ("9", "01", "c")),
     ("--chain nowhere set colour grey", 3, "", "craq: refused 7: there is no such chain\n"),
-]
-
-# Of craq alone, behind these.
-CRAQ_ROWS = [
     ("health", 0, "node 1 N ms\nnode 2 N ms\nnode 3 N ms\nupdate N ms\n", ""),
     ("health --chain b", 0, "node 4 N ms\nnode 5 N ms\nupdate N ms\n", ""),
     ("set w 7 --decimal", 0, "written 1\n", ""),
@@ -194,20 +192,24 @@ def check_row(checks, craq, env, row):
 
 
 def in_python(checks, craqd, home):
-    """The command in Python prints the same, and ends with the same status, on a store of its own."""
+    """The command in Python prints the same, and ends with the same status, on a store of its own. It refuses the same
+    words."""
     server = running.Server(craqd, running.PLAN, 0, journal=False)
     try:
         env = environment(home, CRAQ_CONNECT=server.address)
         for words, status, wanted, _ in ROWS:
             found = ran([sys.executable, JILSDAU, *words.split()], env)
             checks.same(f"jilsdau {words[:60]}", (found[0], output_of(found[1], wanted)), (status, wanted))
+        for words, _ in WRONG:
+            status, out, err = ran([sys.executable, JILSDAU, *words.split(" ")], env)
+            checks.that((status, out) == (2, b"") and err.startswith("jilsdau: "), f"jilsdau {words[:60]}: {status} {err!r}")
     finally:
         server.kill()
 
 
 def verbs(checks, server, craq, home):
     env = environment(home, CRAQ_CONNECT=server.address)
-    for row in ROWS + CRAQ_ROWS:
+    for row in ROWS:
         check_row(checks, craq, env, row)
     kept = os.path.join(home, ".local/state/jilsdau/client")
     with open(kept, encoding="ascii") as it:
@@ -286,7 +288,10 @@ def wrong(checks, craq, home, nowhere):
         checks.that((status, out) == (2, b"") and err.startswith(wanted), f"craq {words[:60]}: {status} {out} {err!r}")
     found = ran([craq, "get", ""], env)
     checks.same("craq get with an empty key", found, (2, b"", KEY_WORDS))
-    checks.same("craq alone", ran([craq], env)[:2], (2, b""))
+    status, out, err = ran([craq], env)
+    checks.that((status, out) == (2, b"") and "\nUsage: craq [OPTIONS] [COMMAND]...\n" in err and "--chain <NAME>" in err,
+                f"craq alone: {status} {out} {err!r}")
+    checks.same("craq help", ran([craq, "help"], env), ran([craq, "--help"], env))
     for words in "get a", "watch 1", "shell":
         found = ran([craq, *words.split()], {**env, "CRAQ_CONNECT": "foo"})
         checks.same(f"craq {words} with a CRAQ_CONNECT that is none", found, (
@@ -296,6 +301,37 @@ def wrong(checks, craq, home, nowhere):
         checks.same(f"craq {words} where nothing listens", found, (4, b"", f"craq: no server answers at {nowhere}\n"))
     found = ran([craq, "shell"], env)
     checks.same("craq shell where nothing listens", found, (4, b"", "connection\n"))
+
+
+def closed_streams(checks, server, craq, home):
+    """With a closed standard stream nothing of what is printed goes to the server: a stored frame does not run."""
+    env = environment(home, CRAQ_CONNECT=server.address)
+    put = wire.update_request(1, 0, 4242, 1, wire.put(0, "pwned", b"yes"))
+    frame = len(wire.one(1, put)).to_bytes(4, "big") + wire.one(1, put)
+    checks.same("a frame as a value", ran([craq, "set", "frame", "-"], env, frame), (0, b"written 1\n", ""))
+    for words, status, err in (("get frame >&-", 1, "cannot print\n"), ("set closed a >&-", 1, "cannot print\n"),
+                               ("get frame <&- >&-", 1, "cannot print\n"), ("get frame <&- >&- 2>&-", 1, ""),
+                               ("set closed - <&-", 1, "cannot read\n"), ("get frame 2>&- >/dev/null", 0, ""),
+                               ("get pwned 2>&-", 6, ""), ("get pwned <&- 2>&-", 6, ""),
+                               (f"--connect {server.address} --node 1 put 4711 1 closed b >&-", 1, "cannot print\n")):
+        found = ran(["bash", "-c", f"exec '{craq}' {words}"], env)
+        checks.same(f"craq {words}", found, (status, b"", err))
+    checks.same("what was stored is no request", ran([craq, "get", "pwned"], env)[0], 6)
+    checks.same("the updates", ran([craq, "get", "closed", "--json"], env)[1].partition(b',"pass"')[0],
+                b'{"reply":"read","version":2,"value":"b"')
+
+
+def names_first(checks, craqd, craq, home):
+    """A word names a chain by its name or, if no chain has that name, by its number."""
+    server = running.Server(craqd, running.PLAN.replace('"a"', '"1"').replace('"b"', '"0"'), 0, journal=False)
+    try:
+        env = environment(home, CRAQ_CONNECT=server.address)
+        for program in [craq], [sys.executable, JILSDAU]:
+            found = [re.findall("node ([0-9]+)", ran([*program, "health", *words], env)[1].decode())
+                     for words in ([], ["--chain", "1"], ["--chain", "0"])]
+            checks.same(f"{program}: the members of a chain", found, [["1", "2", "3"], ["1", "2", "3"], ["4", "5"]])
+    finally:
+        server.kill()
 
 
 def giving(replies):
@@ -393,10 +429,11 @@ def all_of(checks, craqd, craq, nowhere):
         checks.part("wrong words", wrong, craq, home, nowhere)
         server = running.Server(craqd, running.PLAN, 0, journal=False)
         try:
-            for part in verbs, values, ids, lost, prompt, prompt_values:
+            for part in verbs, values, ids, closed_streams, lost, prompt, prompt_values:
                 checks.part(part.__name__, part, server, craq, home)
         finally:
             server.kill()
         checks.part("one connection", one_connection, craqd, craq, home)
         checks.part("a server that is full", turned_away, craq)
+        checks.part("names that are numbers", names_first, craqd, craq, home)
         checks.part("the command in Python", in_python, craqd, home)

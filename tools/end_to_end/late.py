@@ -132,6 +132,8 @@ PYTHON = [
     ("set k v", "", told, 4, "jilsdau: no reply came in time\n", True),
     ("set k v", "", half, 4, "jilsdau: no reply came in time\n", True),
     ("get k", "", slow, 4, "jilsdau: the server did not answer in time\n", False),
+    ("health", "", silent, 4, "jilsdau: the server did not answer in time\n", False),
+    ("health", "", told, 4, "jilsdau: the server did not answer in time\n", False),
 ]
 
 
@@ -183,13 +185,15 @@ def stopped(checks, craqd, craq, home):
                  [sys.executable, JILSDAU, "--connect", address, "set", "two", "v"]]
         with concurrent.futures.ThreadPoolExecutor() as pool:
             found = list(pool.map(lambda words: Run(words, env), lines))
-        for options, out in ([], "node 1 N ms\nnode 2 N ms\nnode 3 stopped\nupdate not tried\n"), (
-                ["--json"], '{"update_seconds":null,"read_seconds":{"1":N,"2":N},"failed":{"3":"stopped"},"pass":N}\n'):
-            ran = Run([craq, "--connect", address, "health", *options], env)
-            seen = re.sub(r"[0-9]+\.[0-9]+|(?<=pass\":)[0-9]+", "N", ran.out)
-            checks.same(f"health {options} at a stopped member", (ran.status, seen, ran.err), (
-                3, out, "craq: remove the stopped node 3: updates wait until then\n"))
-            checks.that(ran.ended - ran.began < LEAST, f"health at a stopped member takes {ran.ended - ran.began:.1f} s")
+        text = "node 1 N ms\nnode 2 N ms\nnode 3 stopped\nupdate not tried\n"
+        told = '{"update_seconds":null,"read_seconds":{"1":N,"2":N},"failed":{"3":"stopped"},"pass":N}\n'
+        for program in [craq], [sys.executable, JILSDAU]:
+            for options, out in ([], text), (["--json"], told):
+                ran = Run([*program, "--connect", address, "health", *options], env)
+                seen = re.sub(r"[0-9]+\.[0-9]+(e-[0-9]+)?|(?<=pass\":)[0-9]+", "N", re.sub("([:,]) ", r"\1", ran.out))
+                checks.same(f"health {options} at a stopped member", (ran.status, seen, ran.err.partition(": ")[2]), (
+                    3, out, "remove the stopped node a/3: updates wait until then\n"))
+                checks.that(ran.ended - ran.began < LEAST, f"health at a stopped member takes {ran.ended - ran.began:.1f} s")
         checks.same("remove", server.ask("remove a/3"), ["a/3 removed"])
         check_time(checks, "an update at a stopped member", found[0].began, found[0])
         for words, ran in zip(lines, found):
@@ -199,6 +203,19 @@ def stopped(checks, craqd, craq, home):
             line = again[1] if again else "false"
             asked = subprocess.run(line, shell=True, capture_output=True, env=env, timeout=WAITS, check=False)
             checks.same(f"{what}, asked again", (asked.returncode, asked.stdout, asked.stderr), (0, b"written 1\n", b""))
+
+
+def lost(checks, craqd, craq, home):
+    """A chain without a ready member: health tells that it is lost, and not that a node is to be removed."""
+    env = {**os.environ, "HOME": home}
+    with control.Controlled(craqd, running.PLAN) as server:
+        for line in "stop b/4", "stop b/5 --force":
+            server.ask(line)
+        for program in [craq], [sys.executable, JILSDAU]:
+            ran = Run([*program, "--connect", f"127.0.0.1:{server.port}", "health", "--chain", "b"], env)
+            checks.same("health of a lost chain", (ran.status, ran.out, ran.err.partition(": ")[2]), (
+                3, "node 4 stopped\nnode 5 stopped\nupdate not tried\n",
+                "no ready member of chain b runs, and its data is lost: start the server again\n"))
 
 
 def tried(checks, craqd, craq):
@@ -213,5 +230,6 @@ def tried(checks, craqd, craq):
                 ran = pool.submit(Run, [*program, "--connect", server.address, *words], env, entered)
                 pending.append((words, server, ran, wanted))
         checks.part("a stopped member", stopped, craqd, craq, home)
+        checks.part("a lost chain", lost, craqd, craq, home)
         for words, server, ran, wanted in pending:
             judge(checks, words, server, ran.result(), wanted)

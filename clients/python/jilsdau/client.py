@@ -6,7 +6,7 @@ import json
 import random
 import threading
 import time
-from dataclasses import dataclass
+from dataclasses import dataclass, replace
 from typing import Callable, Iterable, Iterator, Optional, Sequence, TypeVar, Union, cast
 
 from . import wire
@@ -18,6 +18,8 @@ from .wire import BadReply, Key, Mismatch, Read, Refused, Reply, Request, Stale,
 # A TestAndSet that expects this version writes nothing: no object has it.
 NO_VERSION = 2 ** 64 - 1
 HEALTH_KEY = "health"
+# The seconds that the read of `health` at a member may take.
+READ_SECONDS = 2
 # The wait before a retry grows by this many seconds with each retry.
 PAUSE = 0.05
 # The tries of a request: where each fails at once the last comes 8 to 9 seconds after the first, and
@@ -29,6 +31,12 @@ NUMBERS = 8
 Told = Union[UpdateReply, Read, str]
 ChainName = Union[int, str]
 T = TypeVar("T")
+# Is called with a member, and with the seconds of a read there or why it gave none.
+Seen = Callable[[int, Union[float, Exception]], None]
+
+
+def unseen(_node: int, _result: Union[float, Exception]) -> None:
+    """Does nothing."""
 
 
 @dataclass(frozen=True)
@@ -43,10 +51,32 @@ class Chain:
 
 @dataclass(frozen=True)
 class Health:
-    """Seconds of an update through the whole chain, and of a strong read at each member."""
+    """The seconds of a strong read at each member of a chain, and of an update through all of them.
 
-    update: float
+    `failed` has the members that gave no time: with the Refused of the read, or a TimeoutError after 2
+    seconds. `update` is None if a member is stopped, behind which an update would wait, and if the update
+    failed: `fault` is then what it failed with.
+    """
+
+    chain: Chain
+    update: Optional[float]
     reads: dict[int, float]
+    failed: dict[int, Exception]
+    fault: Optional[Exception] = None
+
+    def stopped(self) -> list[int]:
+        """Returns the members that are stopped."""
+        return [node for node, fault in self.failed.items() if is_refused(fault, wire.STOPPED)]
+
+    def is_lost(self) -> bool:
+        """Returns true if each member is stopped or not ready: such a chain cannot recover."""
+        return not self.reads and all(is_refused(fault, wire.STOPPED, wire.NOT_READY)
+                                      for fault in self.failed.values())
+
+
+def is_refused(fault: Optional[Exception], *numbers: int) -> bool:
+    """Returns true for a refusal with one of these numbers."""
+    return isinstance(fault, Refused) and fault.number in numbers
 
 
 @dataclass(frozen=True)
@@ -171,13 +201,15 @@ class Client:
         seven times at most.
         """
         wire.check_number(number)
-        tried = self.begin()
-        if number is not None:
-            return self.numbered(Asked(chain, command, number, node), tried)
+        asked, tried = Asked(chain, command, number, node), self.begin()
+        return self.newly_numbered(asked, tried) if number is None else self.numbered(asked, tried)
+
+    def newly_numbered(self, asked: Asked, tried: Tries) -> UpdateReply:
+        """Asks an update under a new number, which is exchanged for a larger one if it is stale."""
         above, left = 0, NUMBERS
         while True:
-            with self.numbers.take(chain, above=above) as (fresh,):
-                told = self.numbered(Asked(chain, command, fresh, node), tried)
+            with self.numbers.take(asked.chain, above=above) as (fresh,):
+                told = self.numbered(replace(asked, number=fresh), tried)
             left -= 1
             if not isinstance(told, Stale) or not left:
                 return told
@@ -221,21 +253,49 @@ class Client:
         """Returns the chains by id, each with its members, head first, as the server has them now."""
         return self.retried(self.refresh, None, self.begin())
 
-    def health(self, *, chain: ChainName = 0) -> Health:
-        """Measures an update through the whole chain, which writes nothing, and a strong read at
-        each member."""
-        at = self.chain_id(chain)
+    def health(self, *, chain: ChainName = 0, seen: Seen = unseen) -> Health:
+        """Measures a strong read at each member, of 2 seconds at most, and then an update through the
+        whole chain, which writes nothing and is left out if a member is stopped.
+
+        Calls `seen` with each member at once, and with the seconds of its read or why it gave none. Raises
+        what another fault of the server is.
+        """
+        deadline = Deadline(self.deadline)
+        self.retried(self.refresh, None, self.begin(deadline))
+        known = self.chain(self.chain_id(chain), deadline)
+        reads: dict[int, float] = {}
+        failed: dict[int, Exception] = {}
+        for node in known.members:
+            try:
+                reads[node] = self.read_seconds(known.id, node, Deadline(READ_SECONDS, deadline))
+                seen(node, reads[node])
+            except (Refused, TimeoutError) as fault:
+                failed[node] = fault
+                seen(node, fault)
+        if any(is_refused(fault, wire.STOPPED) for fault in failed.values()):
+            return Health(known, None, reads, failed)
+        try:
+            return Health(known, self.update_seconds(known.id, deadline), reads, failed)
+        except (OSError, BadReply, Refused) as fault:
+            return Health(known, None, reads, failed, fault)
+
+    def read_seconds(self, chain: int, node: int, limit: Deadline) -> float:
+        """Returns the seconds of a strong read at a node, which is asked once."""
         began = time.perf_counter()
-        told = self.cas(HEALTH_KEY, NO_VERSION, b"", chain=at)
-        update = time.perf_counter() - began
+        self.ask(wire.read_request(node, self.shown, wire.STRONG, chain, HEALTH_KEY), limit)
+        return time.perf_counter() - began
+
+    def update_seconds(self, chain: int, deadline: Deadline) -> float:
+        """Returns the seconds of an update through the whole chain that writes nothing."""
+        command = wire.test_and_set(chain, HEALTH_KEY, NO_VERSION, b"")
+        began = time.perf_counter()
+        try:
+            told = self.newly_numbered(Asked(chain, command), self.begin(deadline))
+        except Open as fault:
+            raise fault.fault
         if not isinstance(told, Mismatch):
             raise BadReply(f"another reply than a mismatch: {told}")
-        reads = {}
-        for node in self.chain(at, self.begin().limit()).members:
-            began = time.perf_counter()
-            self.get(HEALTH_KEY, chain=at, node=node)
-            reads[node] = time.perf_counter() - began
-        return Health(update, reads)
+        return time.perf_counter() - began
 
     # Several requests in one frame.
 
@@ -348,11 +408,12 @@ class Client:
         return known[chain]
 
     def chain_id(self, chain: ChainName) -> int:
-        """Returns the id of a chain given by id or name. Raises Refused(7) if there is none."""
+        """Returns the id of a chain given by id, by name or, if no chain has that name, by the digits of its
+        id. Raises Refused(7) if there is none."""
         if isinstance(chain, int):
             return chain
         known = self.known or self.members()
-        found = [it.id for it in known if it.name == chain]
+        found = [it.id for it in known if it.name == chain] or [it.id for it in known if str(it.id) == chain]
         if not found:
             raise Refused(7)
         return found[0]
@@ -372,9 +433,9 @@ class Client:
 
     # One exchange.
 
-    def begin(self) -> Tries:
-        """Returns the tries of a request that begins now."""
-        return Tries(Deadline(self.deadline), self.patience)
+    def begin(self, deadline: Optional[Deadline] = None) -> Tries:
+        """Returns the tries of a request that begins now: until a deadline, or for the client's seconds."""
+        return Tries(deadline or Deadline(self.deadline), self.patience)
 
     def retried(self, attempt: Callable[[Deadline], T], chain: Optional[int], tried: Tries) -> T:
         """Repeats the attempt after a lost connection or a passing refusal, `tries` times in all, until

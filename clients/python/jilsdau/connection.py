@@ -2,6 +2,7 @@
 from __future__ import annotations
 
 import contextlib
+import re
 import socket
 import threading
 import time
@@ -15,7 +16,7 @@ LATE = "no reply came in time"
 def place_of(address: str) -> tuple[str, int]:
     """Splits HOST:PORT, as 127.0.0.1:7000 or [::1]:7000. Raises ValueError if it is no address."""
     host, colon, port = address.rpartition(":")
-    if not (colon and host and port.isdigit() and 1 <= int(port) <= 65535):
+    if not (colon and host and re.fullmatch("[1-9][0-9]{0,4}", port) and int(port) <= 65535):
         raise ValueError(f"an address is HOST:PORT, as 127.0.0.1:7000, and not {address}")
     return host.strip("[]"), int(port)
 

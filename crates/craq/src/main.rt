@@ -49,7 +49,7 @@ use std::rt::Files;
 use std::sync::Wait;
 use std::thread::Threads;
 use std::time::Clock;
-use streams::placeholders;
+use streams::open_placeholders;
 use watch::Watched;
 
 /// Asks once, and prints the answer with its pass on a line of its own, or the refusal. Returns the
@@ -334,7 +334,7 @@ where
 }
 
 fn main(rt: HostRuntime) -> ExitCode {
-    let opened = placeholders(&rt);
+    let opened = open_placeholders(&rt);
     let terminals = Terminals {
         input: rt.stdin().is_terminal(),
         output: rt.stdout().is_terminal(),

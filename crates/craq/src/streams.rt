@@ -41,7 +41,7 @@ fn placeholder<R: Files<File = File>>(rt: &R) -> Option<File> {
 }
 
 /// Opens files in place of closed standard streams.
-pub fn placeholders<R: Files<File = File>>(rt: &R) -> Placeholders {
+pub fn open_placeholders<R: Files<File = File>>(rt: &R) -> Placeholders {
     let first = placeholder(rt);
     let second = placeholder(rt);
     let third = placeholder(rt);

@@ -5,6 +5,7 @@ Bytes are written from docs/use/BYTES.md.
 import random
 import socket
 import struct
+import subprocess
 
 from tools.end_to_end import running
 from tools.sockets import framed, read_to_end as rest, read_up_to as taken
@@ -58,6 +59,25 @@ def serves(checks, server, what):
         made.sendall(framed(STATUS))
         found = taken(made, 4 + 6 + len(running.STATUS))
     checks.same(what, found, framed(bytes.fromhex("0104") + framed(running.STATUS.encode())))
+
+
+def closed_streams(checks, craqd):
+    """A craqd with closed standard streams: no line of its log goes to a client."""
+    wanted = framed(bytes.fromhex("0104") + framed(running.STATUS.encode())) * 2
+    for closed in "<&-", "2>&-", "<&- 2>&-":
+        with running.text_file(running.PLAN) as file:
+            words = " ".join([craqd, "--log", "--connections", "2", *running.OPTIONS, file.name, "127.0.0.1:0"])
+            with subprocess.Popen(["bash", "-c", f"exec {words} {closed}"], stdout=subprocess.PIPE, stderr=subprocess.DEVNULL) as process:
+                port = int(process.stdout.readline().split()[1])
+                for _ in range(2):
+                    with socket.create_connection(("127.0.0.1", port), running.PATIENCE) as made:
+                        made.sendall(framed(STATUS, STATUS))
+                        made.shutdown(socket.SHUT_WR)
+                        checks.same(f"the replies of a craqd with {closed}", rest(made), wanted)
+                checks.same(f"the end of a craqd with {closed}", process.wait(running.PATIENCE), 0)
+    with running.text_file(running.PLAN) as file:
+        found = running.ended(["bash", "-c", f"exec {craqd} {file.name} 127.0.0.1:0 >&-"])
+        checks.same("a craqd without standard output", (found[0], found[2].splitlines()[-1:]), (1, ["cannot print"]))
 
 
 def no_requests(checks, server):

@@ -81,6 +81,7 @@ def main():
     checks.part("no server", commands.no_server, craq, nowhere)
     checks.part("the greatest names", faults.great_plan, craqd, craq)
     checks.part("too many connections", bad_input.too_many, craqd)
+    checks.part("closed streams", bad_input.closed_streams, craqd)
     limits.tried(checks, craqd)
     endings.tried(checks, craqd)
     peers.tried(checks, craqd)

@@ -18,7 +18,6 @@ mod quoting;
 mod reporting;
 mod session;
 mod shell;
-mod streams;
 mod tally;
 mod timed;
 mod watch;
@@ -28,8 +27,8 @@ use bench::Progress;
 use calling::{Asker, Shown, explain, shown_over};
 use chains::members_of;
 use craq_cli::{
-    BAD_INPUT, CallLine, CommandFault, Request, Task, VerbLine, has_raw_bytes, raw_words_of,
-    report_failure, report_memory, report_no_text, report_words, words_of,
+    BAD_INPUT, CallLine, CommandFault, Request, Task, VerbLine, has_raw_bytes, open_placeholders,
+    raw_words_of, report_failure, report_memory, report_no_text, report_words, words_of,
 };
 use craq_names::{ChainId, NodeId};
 use deadline::Deadline;
@@ -49,7 +48,6 @@ use std::rt::Files;
 use std::sync::Wait;
 use std::thread::Threads;
 use std::time::Clock;
-use streams::open_placeholders;
 use watch::Watched;
 
 /// Asks once, and prints the answer with its pass on a line of its own, or the refusal. Returns the

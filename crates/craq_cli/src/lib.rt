@@ -13,6 +13,7 @@ mod options;
 mod program;
 mod raw;
 mod server;
+mod streams;
 mod task;
 mod verb_items;
 mod verb_options;
@@ -30,6 +31,7 @@ pub use program::{
 };
 pub use raw::{has_raw_bytes, raw_bytes, raw_words_of};
 pub use server::Line;
+pub use streams::{Placeholders, open_placeholders};
 pub use task::{Load, Request, Task, ValueForm, Verb, VerbContext, VerbLine, VerbOptions};
 pub use verbs::{is_verb, verb_of};
 

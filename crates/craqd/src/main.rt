@@ -17,7 +17,9 @@ mod serving;
 mod telling;
 mod ticking;
 
-use craq_cli::{Line, NO_MEMORY, report_failure, report_no_text, report_words, words_of};
+use craq_cli::{
+    Line, NO_MEMORY, open_placeholders, report_failure, report_no_text, report_words, words_of,
+};
 use serving::serve_line;
 use std::env::Env;
 use std::io;
@@ -74,8 +76,11 @@ where
 }
 
 fn main(rt: HostRuntime) -> ExitCode {
-    match run(rt) {
-        Ok(status) => ExitCode::from(status),
-        Err(error) => ExitCode::from(report_failure(&rt, error.kind(), NO_MEMORY)),
-    }
+    let opened = open_placeholders(&rt);
+    let status = match run(rt) {
+        Ok(status) => status,
+        Err(error) => report_failure(&rt, error.kind(), NO_MEMORY),
+    };
+    drop(opened);
+    ExitCode::from(status)
 }

@@ -1,5 +1,5 @@
 //! Opens a file in place of each standard stream that is closed: a socket would take its number, and
-//! would get what is printed; for `main`.
+//! would get what is printed; for the mains of the programs.
 use std::fs::{File, OpenOptions};
 use std::io;
 use std::os::fd::AsRawFd;

@@ -239,6 +239,12 @@ def bad_words(checks):
             except TypeError as fault:
                 told = str(fault)
             checks.that("and not" in str(told), f"a text as {what}: {told}")
+        for what, more in ("mode", {"mode": "strong"}), ("number", {"node": 2 ** 33}):
+            try:
+                told = store.get("k", **{"node": 1, **more})
+            except (TypeError, OverflowError) as fault:
+                told = str(fault)
+            checks.that(what in str(told) and "and not" in str(told), f"a wrong {what}: {told}")
         checks.same("what was sent after these", server.asked, [])
     for address in "nowhere", "127.0.0.1:0", ":7000", "127.0.0.1:99999":
         checks.same(f"the address {address}", fault_of(Client, address, client=ID), "ValueError")

@@ -147,6 +147,8 @@ def number(size: int, it: int) -> bytes:
     """Encodes a number in this many bytes. Raises OverflowError if it does not fit."""
     if not isinstance(it, int):
         raise TypeError(f"expected a number, and not {it!r}")
+    if not 0 <= it < 256 ** size:
+        raise OverflowError(f"expected a number of {8 * size} bits, and not {it}")
     return it.to_bytes(size, "big")
 
 
@@ -273,7 +275,9 @@ def update_request(node: int, shown: int, client: int, request: int, command: by
 
 
 def read_request(node: int, shown: int, mode: bytes, chain: int, key: Key) -> Request:
-    """Returns a read as its kind and its body."""
+    """Returns a read as its kind and its body. Raises TypeError unless the mode is encoded."""
+    if not isinstance(mode, bytes):
+        raise TypeError(f"a mode is STRONG, EVENTUAL or bounded(K), and not {mode!r}")
     return READ, number(4, node) + number(8, shown) + mode + object_bytes(chain, key)
 
 

@@ -70,9 +70,9 @@ pub fn witnessed_calls_are_explained()
 ///   seen before its call.
 /// - `in_run_order`: a strong reply that comes before a request in the run has no longer a prefix
 ///   than the request's strong reply, of whatever clients they are.
-/// - `in_order`: neither has one that the request's client had seen before its call. So the strong
-///   operations of one client are in order, and so are those of two clients of which one has seen
-///   what the other saw.
+/// - `in_order`: a strong operation has no shorter a prefix than each one that its client had seen
+///   before its call. So the strong operations of one client are in order, and so are those of two
+///   clients of which one has seen what the other saw.
 /// - `together`: the histories that two clients have seen begin one history, if one of them begins
 ///   the other (`Client::compare`).
 /// - `eventual`: each other reply is to an eventual or a bounded read, and meets the guarantee of its

@@ -81,8 +81,8 @@ fn split_word(bytes: &[u8]) -> (u64, &[u8])
     }
 }
 
-/// Returns the last word of a message: its length, and behind it these at most 7 bytes. SipHash has
-/// the same word in another order.
+/// Returns the last word of a message: its length, and behind it these at most 7 bytes. SipHash puts
+/// the length behind the bytes.
 #[tactic(auto, unfolding(crate::specs::Hashed::last_word))]
 fn last_word_of(count: u64, bytes: &[u8]) -> u64
     ensures { result ≡ last_word count bytes.now }

@@ -1,5 +1,5 @@
 //! Reads a store's plan (chain configuration) from TOML: each object's chain, each chain's nodes.
-//! Runs in the programs that open a store and in `craq_workers`; the only crate that reads TOML.
+//! Runs in the programs that open a store and in `craq_workers`.
 #![tactic(auto)]
 
 mod plan;

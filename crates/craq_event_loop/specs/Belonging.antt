@@ -3,7 +3,7 @@ use Rattle.std.specs.Prelude.{◌≡◌, ◌≢◌, ◌⊎◌, ◌↔◌, ℕ, t
 use Rattle.std.specs.Io.KnownBytes.{Appends, Consumes}
 use Rattle.slab.specs.Slab.{Slab, get}
 use Rattle.craq_names.specs.declared.refusal.Refusal.{Refusal}
-use Rattle.craq_front.specs.Talk.{History}
+use Rattle.craq_front.specs.Talk.{Exchanges}
 use Rattle.craq_seat.specs.Calls.{Called}
 use Rattle.craq_completions.specs.declared.queue_state.Completion.{Completion}
 use Rattle.craq_completions.specs.declared.token.Token.{Token}
@@ -35,7 +35,7 @@ pub record CameAs {S T : Type 0} (stream : S) (session : T) (slot receipts : ℕ
 -- just these bytes came to the connection state, behind those before; the call that is under way, its unsent bytes, its calls and its
 -- session are unchanged
 pub record ReceivesBytes {T : Type 0} (came : List ℕ) (old new : ConnectionState T) : Type 0 where
-  pub heard : (read written : List ℕ) (rounds : History) → Holds old.phase old.codec read written rounds → Holds new.phase new.codec (read ++ came) written rounds
+  pub heard : (read written : List ℕ) (rounds : Exchanges) → Holds old.phase old.codec read written rounds → Holds new.phase new.codec (read ++ came) written rounds
   pub waits : (q : CallRequest) → new.phase ≡ phases.Waits q ↔ old.phase ≡ phases.Waits q
   pub unsent : new.codec.buffers.output.items ≡ old.codec.buffers.output.items
   pub calls : new.calls ≡ old.calls
@@ -44,7 +44,7 @@ pub record ReceivesBytes {T : Type 0} (came : List ℕ) (old new : ConnectionSta
 -- just these bytes, the first that were unsent, are written as far as the connection state knows; its phase, calls and session are
 -- unchanged
 pub record SendsBytes {T : Type 0} (went : List ℕ) (old new : ConnectionState T) : Type 0 where
-  pub given : (read written : List ℕ) (rounds : History) → Holds old.phase old.codec read written rounds → Holds new.phase new.codec read (written ++ went) rounds
+  pub given : (read written : List ℕ) (rounds : Exchanges) → Holds old.phase old.codec read written rounds → Holds new.phase new.codec read (written ++ went) rounds
   pub unsent : old.codec.buffers.output.items ≡ went ++ new.codec.buffers.output.items
   pub phase : new.phase ≡ old.phase
   pub calls : new.calls ≡ old.calls

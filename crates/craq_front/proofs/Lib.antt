@@ -5,6 +5,6 @@ pub mod Fronts
 pub mod Known
 pub mod Lengths
 pub mod Nexts
-pub mod Sessions
+pub mod Conversations
 pub mod Talks
 pub mod Turning

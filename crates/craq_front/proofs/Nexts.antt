@@ -11,7 +11,7 @@ use Rattle.craq_front.specs.declared.protocol_codec.Step.TheVariants.{Ask, Refus
 use Rattle.craq_front.specs.Serving.{Turn, Replies, nothing, Begins, idle, begun, Next}
 use Rattle.craq_front.specs.Steps.{IsFirst, Advances}
 use Rattle.craq_front.proofs.Lengths.{behind_frame}
-use Rattle.craq_front.proofs.Sessions.{served_one}
+use Rattle.craq_front.proofs.Conversations.{served_one}
 
 -- the first message of the payload in front is asked
 pub first_asked : (asking : Option Asking) (m : ClientMessage) (payload : List ℕ) → length payload ≤ payload_limit → IsFirst asking m payload

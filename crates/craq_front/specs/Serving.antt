@@ -103,28 +103,28 @@ abbrev pub IsUsedUp : ℕ → List ℕ → Type 0
 IsUsedUp n read = 2 ^ 64 - 1 ≤ n + length read
 
 -- the bytes that were read and written when `serve` answers so
-abbrev pub Session : {D : Type 0} → Turn D → D → List ℕ → List ℕ → D → StreamFault → Result ℕ Refusal → Type 0
+abbrev pub Conversation : {D : Type 0} → Turn D → D → List ℕ → List ℕ → D → StreamFault → Result ℕ Refusal → Type 0
 -- all frames that were read are answered, and no byte is left
-Session turn old read written new neither (Ok n) = Served turn old read [] written n new
+Conversation turn old read written new neither (Ok n) = Served turn old read [] written n new
 -- less than a frame is left
-Session turn old read written new neither (Err refusals.Closed) =
+Conversation turn old read written new neither (Err refusals.Closed) =
     (rest : List ℕ) × (n : ℕ) × Served turn old read rest written n new × IsPartial rest × (0 < length rest)
 -- a length above the limit is left, and its refusal is the last frame written
-Session turn old read written new neither (Err refusals.FrameTooLong) =
+Conversation turn old read written new neither (Err refusals.FrameTooLong) =
     (rest : List ℕ) × (n : ℕ) × (replied : List ℕ) × (last : List ℕ) × Served turn old read rest replied n new × RefusesLength rest last × (written ≡ replied ++ last)
 -- the frames up to some place are answered, and the handler was asked at most a prefix of the next
-Session {D} turn old read written new neither (Err refusals.Memory) =
+Conversation {D} turn old read written new neither (Err refusals.Memory) =
     (rest : List ℕ) × (n : ℕ) × (mid : D) × Served turn old read rest written n mid × BeginsNext turn mid rest new
-Session turn old read written new neither (Err refusals.Exhausted) =
+Conversation turn old read written new neither (Err refusals.Exhausted) =
     (rest : List ℕ) × (n : ℕ) × Served turn old read rest written n new × IsUsedUp n read
 -- less than a frame is left where a read failed
-Session turn old read written new reader (Err refusals.Io) =
+Conversation turn old read written new reader (Err refusals.Io) =
     (rest : List ℕ) × (n : ℕ) × Served turn old read rest written n new × IsPartial rest
 -- a prefix of the replies is written where a write failed
-Session {D} turn old read written new writer (Err refusals.Io) =
+Conversation {D} turn old read written new writer (Err refusals.Io) =
     (rest : List ℕ) × (n : ℕ) × (mid : D) × (replied : List ℕ) × (last : List ℕ) × (more : List ℕ)
     × Served turn old read rest replied n mid × BeginsNext turn mid rest new × ((last ≡ []) ⊎ RefusesLength rest last) × (written ++ more ≡ replied ++ last)
-Session turn old read written new fault result = ⊥
+Conversation turn old read written new fault result = ⊥
 
 -- ---- the parts of serving, on bytes that wait to be cut into frames and bytes that wait to be written
 

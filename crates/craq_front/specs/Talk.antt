@@ -10,11 +10,11 @@ use Rattle.craq_front.specs.Serving.{Turn, Turns, Served, messages}
 use Rattle.craq_front.specs.Steps.{waiting, replied, IsForm}
 
 -- the turns of a protocol codec: each message that was asked, with its reply, in order
-abbrev pub History : Type 0
-History = List (ClientMessage × ClientReply)
+abbrev pub Exchanges : Type 0
+Exchanges = List (ClientMessage × ClientReply)
 
 -- one turn more
-abbrev pub next_turn : Turn History
+abbrev pub next_turn : Turn Exchanges
 next_turn old m r new = new ≡ old ++ (m, r) ∷ []
 
 -- the messages of the payload before m have their replies, and m is asked
@@ -28,7 +28,7 @@ pub record UnderWay {D : Type 0} (turn : Turn D) (old : D) (payload : List ℕ) 
 
 -- the bytes `read` came, and `input` of them are not yet cut off as frames; `made` are the bytes of the replies; of the payload under
 -- way the message m is asked, or no payload is under way; and these were the turns
-pub data Stands (read made input : List ℕ) (asking : Option Asking) (m : Option ClientMessage) (turns : History) : Type 0 where
+pub data Stands (read made input : List ℕ) (asking : Option Asking) (m : Option ClientMessage) (turns : Exchanges) : Type 0 where
   between : (n : ℕ) → Served next_turn [] read input made n turns → m ≡ None → Stands read made input asking m turns
-  within : (n : ℕ) (payload : List ℕ) (earlier : History) (now : ClientMessage) → length payload ≤ payload_limit
+  within : (n : ℕ) (payload : List ℕ) (earlier : Exchanges) (now : ClientMessage) → length payload ≤ payload_limit
       → Served next_turn [] read (frame payload ++ input) made n earlier → UnderWay next_turn earlier payload asking now turns → m ≡ Some now → Stands read made input asking m turns

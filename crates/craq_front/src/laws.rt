@@ -8,7 +8,7 @@ ghost use Rattle.craq_front.specs.declared.protocol_codec.Asking.{Asking};
 ghost use Rattle.craq_front.specs.declared.protocol_codec.Step.TheVariants.{Ask, Refused};
 ghost use Rattle.craq_front.specs.Door.{IsAllowed, reply_limit};
 ghost use Rattle.craq_front.specs.Steps.{Advances, Follows};
-ghost use Rattle.craq_front.specs.Talk.{History, Stands};
+ghost use Rattle.craq_front.specs.Talk.{Exchanges, Stands};
 
 /// Law: a request handler may give exactly the replies that have an encoding in a payload of at
 /// most 100,000 bytes. The reply is a value of its type, whose numbers are within their widths. It
@@ -23,12 +23,12 @@ pub fn allowed_replies_are_short()
 /// the contract is the law.
 pub fn codecs_answer()
     ensures begins { Stands [] [] [] None None [] }
-    ensures received { (read made input more : List ℕ) (a : Option Asking) (m : Option ClientMessage) (turns : History)
+    ensures received { (read made input more : List ℕ) (a : Option Asking) (m : Option ClientMessage) (turns : Exchanges)
         → Stands read made input a m turns → Stands (read ++ more) made (input ++ more) a m turns }
-    ensures asked { (read made input rest unsent : List ℕ) (a b : Option Asking) (m : ClientMessage) (turns : History)
+    ensures asked { (read made input rest unsent : List ℕ) (a b : Option Asking) (m : ClientMessage) (turns : Exchanges)
         → Stands read made input a None turns → Advances input rest unsent b (Ok (Ask m)) → Stands read (made ++ unsent) rest b (Some m) turns }
-    ensures refused { (read made input rest unsent : List ℕ) (a b : Option Asking) (turns : History)
+    ensures refused { (read made input rest unsent : List ℕ) (a b : Option Asking) (turns : Exchanges)
         → Stands read made input a None turns → Advances input rest unsent b (Ok Refused) → Stands read (made ++ unsent) rest b None turns }
-    ensures replied { (read made input unsent : List ℕ) (a b : Option Asking) (m : ClientMessage) (r : ClientReply) (next : Option ClientMessage) (turns : History)
+    ensures replied { (read made input unsent : List ℕ) (a b : Option Asking) (m : ClientMessage) (r : ClientReply) (next : Option ClientMessage) (turns : Exchanges)
         → Stands read made input a (Some m) turns → Follows a r unsent b (Ok next) → Stands read (made ++ unsent) input b next (turns ++ (m, r) ∷ []) }
 {}

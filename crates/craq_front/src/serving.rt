@@ -1,8 +1,8 @@
-//! `serve`: answers all requests of a connection, in order; the server's loop for one client.
+//! `serve`: answers all requests of a connection, in order, by a request handler.
 ghost use Rattle.std.specs.Prelude.{◌≡◌, ◌≢◌, ◌+◌, ◌-◌, ◌^◌, ◌<◌, ℕ, List, None, [], ◌++◌, false, Ok, Err, IfOk, IfErr, OnOk, OnErr};
 ghost use Rattle.std.specs.Io.KnownBytes.{Appends, Consumes, IsAtEnd};
 ghost use Rattle.craq_frames.specs.Frame.{frame};
-ghost use Rattle.craq_front.specs.Serving.{Replies, Begins, StreamFault, read_faults, write_faults, Session, Next, Batch};
+ghost use Rattle.craq_front.specs.Serving.{Replies, Begins, StreamFault, read_faults, write_faults, Conversation, Next, Batch};
 ghost use Rattle.craq_front.specs.Steps.{IsFirst};
 
 use crate::{Door, ProtocolCodec, Sink, Source, Step};
@@ -130,13 +130,13 @@ pub fn serve<R: Source, W: Sink, D: Door>(
 ) -> Result<u64, Refusal>
     requires reads { R.count reader.old < 2 ^ 64 - 1 }
     requires writes { W.count writer.old < 2 ^ 64 - 1 }
-    // The bytes written answer the bytes read, as `Session` says for each result.
+    // The bytes written answer the bytes read, as `Conversation` says for each result.
     ensures session { (read : List ℕ) × (written : List ℕ) × (fault : StreamFault)
         × Consumes (R.remaining reader.old) (R.remaining reader.new) read
         × Appends (W.contents writer.old) (W.contents writer.new) written
         × (R.count reader.new ≡ R.count reader.old + read_faults fault)
         × (W.count writer.new ≡ W.count writer.old + write_faults fault)
-        × Session D.turn door.old read written door.new fault result }
+        × Conversation D.turn door.old read written door.new fault result }
     // A count, or an end inside a frame, is answered only at the end of the input.
     ensures end { IfOk result (λ n. IsAtEnd (R.remaining reader.new)) }
     ensures closed { result ≡ Err Refusal.Closed → IsAtEnd (R.remaining reader.new) }

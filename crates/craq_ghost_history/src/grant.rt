@@ -2,7 +2,7 @@
 ghost use Rattle.std.specs.Prelude.{◌≡◌, None};
 ghost use Rattle.craq_ghost_history.specs.Views.{IsGrant, permit_in};
 
-use crate::history::{History, HistoryRule, Named, View};
+use crate::history::{GhostHistory, HistoryRule, Named, View};
 use crate::token::Token;
 use atomic_table::Seat;
 use std::marker::{Model, PhantomData};
@@ -50,7 +50,7 @@ impl<E, X: HistoryRule<E>, N: Named> Grant<E, X, N> {
     }
 
     /// Returns a token that has seen as much. The permit stays here.
-    pub fn token(&mut self, history: &History<E, X, N>) -> Token<E, X, N>
+    pub fn token(&mut self, history: &GhostHistory<E, X, N>) -> Token<E, X, N>
         ensures token { result ≡ self.old.seen }
         ensures same { self.new ≡ self.old }
     {

@@ -1,4 +1,4 @@
-//! `History`: a list of entries that only grows, in the proofs alone; and the seats that know
+//! `GhostHistory`: a list of entries that only grows, in the proofs alone; and the seats that know
 //! prefixes of it.
 ghost use Rattle.std.specs.Prelude.{◌≡◌, [], Some};
 ghost use Rattle.craq_ghost_history.specs.Authors.{MayGive, MayUse, Owns};
@@ -158,14 +158,14 @@ impl<E> Join<View<E>> for Hearing {
 /// The history that the threads of a store share. It holds one word, which nobody writes: each step
 /// is a load of it.
 #[derive(Drop)]
-pub struct History<E, X: HistoryRule<E>, N: Named> {
+pub struct GhostHistory<E, X: HistoryRule<E>, N: Named> {
     pub(crate) table: Table<u8, View<E>, (), Law<X>, Global>,
     /// Threads share it wherever `N` may cross threads: a lock of one may be shared.
     pub(crate) of: PhantomData<Mutex<N>>,
     ghost is: { (table.shared.table_id ≡ N.history) × (N.history.words ≡ 1) },
 }
 
-impl<E, X: HistoryRule<E>, N: Named> History<E, X, N> {
+impl<E, X: HistoryRule<E>, N: Named> GhostHistory<E, X, N> {
     /// Adds an entry. All that runs is a load.
     pub(crate) fn add(&self, seat: &mut Seat<u8, View<E>>, entry: &E)
         requires table { seat.old.table_id ≡ N.history }

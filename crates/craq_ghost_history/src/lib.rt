@@ -13,7 +13,7 @@ mod writer;
 
 pub use author::{Author, Permit, Right};
 pub use grant::Grant;
-pub use history::{History, HistoryRule, Law, Named, View};
+pub use history::{GhostHistory, HistoryRule, Law, Named, View};
 pub use opening::{Opened, Registrar};
 pub use token::Token;
 pub use writer::Writer;

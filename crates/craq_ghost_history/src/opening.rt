@@ -5,7 +5,7 @@ ghost use Rattle.craq_ghost_history.specs.Authors.{is_used};
 ghost use Rattle.craq_ghost_history.specs.declared.author.Author.TheVariants.{Client};
 
 use crate::author::Author;
-use crate::history::{History, HistoryRule, Law, Named, View};
+use crate::history::{GhostHistory, HistoryRule, Law, Named, View};
 use crate::token::Token;
 use crate::writer::Writer;
 use atomic_table::{Seat, Table};
@@ -59,12 +59,12 @@ impl<E, X: HistoryRule<E>> Opened<E, X> {
     }
 
     /// Returns the history under a name, and the registrar, which gives the rights to its entries.
-    pub fn named<N: Named>(self, alloc: Global) -> (History<E, X, N>, Registrar<E, X, N>)
+    pub fn named<N: Named>(self, alloc: Global) -> (GhostHistory<E, X, N>, Registrar<E, X, N>)
         requires { self ≡ N.history }
     {
         let Opened { table, seat } = self;
         (
-            History {
+            GhostHistory {
                 table,
                 of: PhantomData,
             },
@@ -96,7 +96,7 @@ impl<E, X: HistoryRule<E>, N: Named> Registrar<E, X, N> {
     /// given before, or there is no memory.
     pub fn node(
         &mut self,
-        history: &History<E, X, N>,
+        history: &GhostHistory<E, X, N>,
         chain: u64,
         node: u64,
     ) -> Option<Writer<E, X, N>>
@@ -121,7 +121,7 @@ impl<E, X: HistoryRule<E>, N: Named> Registrar<E, X, N> {
     }
 
     /// Returns a token that has seen nothing yet.
-    pub fn token(&mut self, history: &History<E, X, N>) -> Token<E, X, N>
+    pub fn token(&mut self, history: &GhostHistory<E, X, N>) -> Token<E, X, N>
         ensures token { result ≡ [] }
         ensures same { self.new ≡ self.old }
     {
@@ -137,7 +137,7 @@ impl<E, X: HistoryRule<E>, N: Named> Registrar<E, X, N> {
 
     /// Gives the right to the entries of a new session of a client, and to all its permits. None,
     /// with nothing changed: 2^64 - 1 were given.
-    pub fn client(&mut self, history: &History<E, X, N>) -> Option<Writer<E, X, N>>
+    pub fn client(&mut self, history: &GhostHistory<E, X, N>) -> Option<Writer<E, X, N>>
         ensures given { IfSome result (λ w. (w.author ≡ Client self.old.next) × (w.next ≡ 0) × (w.seen ≡ []) × (self.new.next ≡ self.old.next + 1)) }
         ensures none { IsNone result → (self.old.next ≡ 2 ^ 64 - 1) × (self.new ≡ self.old) }
     {

@@ -5,7 +5,7 @@ ghost use mathlib.Core.List.{IsPrefix};
 ghost use Rattle.craq_ghost_history.specs.Histories.{AreComparable};
 ghost use Rattle.craq_ghost_history.specs.Views.{IsWitness};
 
-use crate::history::{History, HistoryRule, Named, View};
+use crate::history::{GhostHistory, HistoryRule, Named, View};
 use atomic_table::Seat;
 use std::marker::{Model, PhantomData};
 
@@ -40,7 +40,7 @@ impl<E, X: HistoryRule<E>, N: Named> Token<E, X, N> {
     }
 
     /// Returns a copy. What it has seen keeps the rule.
-    pub fn again(&mut self, history: &History<E, X, N>) -> Self
+    pub fn again(&mut self, history: &GhostHistory<E, X, N>) -> Self
         ensures copy { result ≡ self.old }
         ensures same { self.new ≡ self.old }
         ensures holds { X.holds self.old }
@@ -52,7 +52,7 @@ impl<E, X: HistoryRule<E>, N: Named> Token<E, X, N> {
     }
 
     /// Sees all that there is, and so all that the other token has seen.
-    pub fn learn(&mut self, history: &History<E, X, N>, other: Self)
+    pub fn learn(&mut self, history: &GhostHistory<E, X, N>, other: Self)
         ensures this { IsPrefix self.old self.new }
         ensures that { IsPrefix other self.new }
         ensures holds { X.holds self.new }
@@ -64,7 +64,7 @@ impl<E, X: HistoryRule<E>, N: Named> Token<E, X, N> {
 
     /// Shows that two tokens of one store have seen prefixes of one history: one begins with the
     /// other. Neither changes.
-    pub fn compare(&mut self, history: &History<E, X, N>, other: &mut Self)
+    pub fn compare(&mut self, history: &GhostHistory<E, X, N>, other: &mut Self)
         ensures comparable { AreComparable self.old other.old }
         ensures this { self.new ≡ self.old }
         ensures that { other.new ≡ other.old }

@@ -8,7 +8,7 @@ ghost use Rattle.craq_ghost_history.specs.Views.{IsWriter, author_of, next_of};
 ghost use Rattle.craq_ghost_history.specs.declared.author.Author.TheVariants.{Client};
 
 use crate::grant::Grant;
-use crate::history::{History, HistoryRule, Named, View};
+use crate::history::{GhostHistory, HistoryRule, Named, View};
 use crate::token::Token;
 use atomic_table::Seat;
 use std::marker::{Model, PhantomData};
@@ -48,7 +48,7 @@ impl<E, X: HistoryRule<E>, N: Named> Writer<E, X, N> {
 
     /// Adds an entry of the author, after all that the writer has seen. Returns a token that has
     /// seen it.
-    pub fn add(&mut self, history: &History<E, X, N>, entry: &E) -> Token<E, X, N>
+    pub fn add(&mut self, history: &GhostHistory<E, X, N>, entry: &E) -> Token<E, X, N>
         requires own { X.author entry.now ≡ self.old.author }
         requires none { X.permit entry.now ≡ None }
         requires may { MayAdd X.author X.permit X.holds self.old.seen [] entry.now }
@@ -65,7 +65,7 @@ impl<E, X: HistoryRule<E>, N: Named> Writer<E, X, N> {
     /// token that has seen it.
     pub fn add_after(
         &mut self,
-        history: &History<E, X, N>,
+        history: &GhostHistory<E, X, N>,
         entry: &E,
         reported: Token<E, X, N>,
     ) -> Token<E, X, N>
@@ -84,7 +84,7 @@ impl<E, X: HistoryRule<E>, N: Named> Writer<E, X, N> {
     /// grant's permit up, if there is one. Returns a token that has seen it.
     pub fn add_with(
         &mut self,
-        history: &History<E, X, N>,
+        history: &GhostHistory<E, X, N>,
         entry: &E,
         grant: Grant<E, X, N>,
     ) -> Token<E, X, N>
@@ -105,7 +105,7 @@ impl<E, X: HistoryRule<E>, N: Named> Writer<E, X, N> {
 
     /// Sees all that there is, and so all that the token has seen. The author has no more entries
     /// by it.
-    pub fn learn(&mut self, history: &History<E, X, N>, reported: Token<E, X, N>)
+    pub fn learn(&mut self, history: &GhostHistory<E, X, N>, reported: Token<E, X, N>)
         ensures this { IsPrefix self.old.seen self.new.seen }
         ensures that { IsPrefix reported self.new.seen }
         ensures own { of X.author self.old.author self.new.seen ≡ of X.author self.old.author self.old.seen }
@@ -119,7 +119,7 @@ impl<E, X: HistoryRule<E>, N: Named> Writer<E, X, N> {
     }
 
     /// Returns a token that has seen as much.
-    pub fn token(&mut self, history: &History<E, X, N>) -> Token<E, X, N>
+    pub fn token(&mut self, history: &GhostHistory<E, X, N>) -> Token<E, X, N>
         ensures token { result ≡ self.old.seen }
         ensures same { self.new ≡ self.old }
         ensures holds { X.holds self.old.seen }
@@ -128,7 +128,7 @@ impl<E, X: HistoryRule<E>, N: Named> Writer<E, X, N> {
     }
 
     /// Gives the next permit of a client, with all that its writer has seen.
-    pub fn permit(&mut self, history: &History<E, X, N>) -> Grant<E, X, N>
+    pub fn permit(&mut self, history: &GhostHistory<E, X, N>) -> Grant<E, X, N>
         ensures permit { (client : ℕ) → self.old.author ≡ Client client → result ≡ record { seen = self.old.seen; permit = Some (record { client = client; number = self.old.next }) } }
         ensures next { (client : ℕ) → self.old.author ≡ Client client → self.new.next ≡ self.old.next + 1 }
         ensures same { (self.new.author ≡ self.old.author) × (self.new.seen ≡ self.old.seen) }

@@ -8,7 +8,7 @@ use Rattle.craq_epochs.specs.Mastered.{Mastered}
 use Rattle.craq_seat.specs.declared.journal.BookEvent.{BookEvent}
 use Rattle.craq_seat.specs.Cells.{Celled}
 use Rattle.craq_ghost_history.proofs.Prefixes.{prefix_trans}
-use Rattle.craq_store_history.specs.declared.entry.Entry.{Entry}
+use Rattle.craq_store_history.specs.declared.entry.HistoryEntry.{HistoryEntry}
 use Rattle.craq_store_parts.specs.Recorded.{HadLinesIn}
 use Rattle.craq_locked_chain.specs.Held.{HaveHistory}
 
@@ -44,7 +44,7 @@ all_at P f old new i d within same a =
     subst P (map_get f new i d) (all_get P (map f new) i (f d) (omega (arith, size, within)) (subst (AllByRecursion P) (sym same) a))
 
 -- lines that a token had seen it still has once it has seen more
-pub had_later : {C : Type 0} (log later : List Entry) (cell : Celled C Event) → IsPrefix log later → HadLinesIn log cell → HadLinesIn later cell
+pub had_later : {C : Type 0} (log later : List HistoryEntry) (cell : Celled C Event) → IsPrefix log later → HadLinesIn log cell → HadLinesIn later cell
 had_later log later cell p (before, q, h) = (before, prefix_trans before log later q p, h)
 
 -- the history of these cells is that of cells that are equal to them

@@ -6,7 +6,7 @@ use Rattle.craq_seat.specs.declared.journal.Record.{Record}
 use Rattle.craq_seat.specs.Books.{book_step, first_master}
 use Rattle.craq_seat.specs.Cells.{Celled, opened}
 use Rattle.craq_seat.specs.Journal.{Replays, RisesTo}
-use Rattle.craq_store_history.specs.declared.entry.Entry.{Entry}
+use Rattle.craq_store_history.specs.declared.entry.HistoryEntry.{HistoryEntry}
 use Rattle.craq_store_history.specs.Entries.{members_in}
 use Rattle.craq_store_history.specs.Steps.{IsMasterAt}
 use Rattle.craq_store_parts.specs.Recorded.{IsUnmoved}
@@ -31,7 +31,7 @@ becomes_first b (chain, members, journal, is) = ([], first_is)
     first_is = ap (λ (x : Celled Mastered BookEvent). x.inside) is ∙ sym (ap (λ (x : Celled Mastered BookEvent). first_master x.opening) is)
 
 -- and a history in which it is the replay of its steps has the chain's first members
-pub opened_members : (chain : ℕ) (log : List Entry) (b : Celled Mastered BookEvent) → IsUnmoved b → IsMasterAt chain log b.inside b.stamp → members_in chain log ≡ Some b.inside.members
+pub opened_members : (chain : ℕ) (log : List HistoryEntry) (b : Celled Mastered BookEvent) → IsUnmoved b → IsMasterAt chain log b.inside b.stamp → members_in chain log ≡ Some b.inside.members
 opened_members chain log b (c, members, journal, is) at =
     let none : at.after.records ≡ [] = rises 0 b.stamp at.after.records at.after.stamps (sym (ap (λ (x : Celled Mastered BookEvent). x.stamp) is)) in
     let replay : Replays book_step (opened_master chain at.members) [] b.inside = subst (λ (rs : List (Record BookEvent)). Replays book_step (opened_master chain at.members) rs b.inside) none at.after.replay in

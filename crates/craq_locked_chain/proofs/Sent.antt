@@ -16,7 +16,7 @@ use Rattle.craq_seat.specs.Merge.{Journals, MergedStep, book_line, node_line}
 use Rattle.craq_causality.specs.Authors.{lines_of}
 use Rattle.craq_causality.specs.Causal.{AreCausal}
 use Rattle.craq_causality.proofs.Orders.{all_in, from_contains, in_get}
-use Rattle.craq_store_history.specs.declared.entry.Entry.{Entry}
+use Rattle.craq_store_history.specs.declared.entry.HistoryEntry.{HistoryEntry}
 use Rattle.craq_store_history.specs.Chains.{ChainHolds}
 use Rattle.craq_store_history.specs.Entries.{lines_in, members_in}
 use Rattle.craq_merge.proofs.Senders.{have_senders}
@@ -28,7 +28,7 @@ use Rattle.craq_store_parts.specs.Recorded.{HasLinesIn}
 use Rattle.craq_locked_chain.specs.Held.{AreOwn, Held}
 
 -- a cell's journal has its node's lines
-of_cell : {C : Type 0} (chain : ℕ) (log : List Entry) (c : Celled C Event) (n : ℕ × List (Record Event))
+of_cell : {C : Type 0} (chain : ℕ) (log : List HistoryEntry) (c : Celled C Event) (n : ℕ × List (Record Event))
     → IsJournalOf c n → c.opening.name.chain ≡ chain → HasLinesIn log c → lines_of n.0 (lines_in chain log) ≡ map (node_line n.0) n.1
 of_cell chain log c n h own lines =
     let kept : lines_of (id_of c) (lines_in c.opening.name.chain log) ≡ map (node_line (id_of c)) n.1 =
@@ -36,7 +36,7 @@ of_cell chain log c n h own lines =
     let of_chain : lines_of (id_of c) (lines_in chain log) ≡ map (node_line (id_of c)) n.1 = subst (λ (k : ℕ). lines_of (id_of c) (lines_in k log) ≡ map (node_line (id_of c)) n.1) own kept in
     subst (λ (k : ℕ). lines_of k (lines_in chain log) ≡ map (node_line k) n.1) (sym h.0) of_chain
 
-of_cells : {C : Type 0} (chain : ℕ) (log : List Entry) (cs : List (Celled C Event)) (ns : List (ℕ × List (Record Event)))
+of_cells : {C : Type 0} (chain : ℕ) (log : List HistoryEntry) (cs : List (Celled C Event)) (ns : List (ℕ × List (Record Event)))
     → AreJournalsOf cs ns → AllByRecursion (λ (c : Celled C Event). c.opening.name.chain ≡ chain) cs → AllByRecursion (λ (c : Celled C Event). HasLinesIn log c) cs
     → AllByRecursion (λ (n : ℕ × List (Record Event)). lines_of n.0 (lines_in chain log) ≡ map (node_line n.0) n.1) ns
 of_cells chain log [] [] h own lines = tt
@@ -51,7 +51,7 @@ are_sent : {C : Type 0} (represents : C → Plain → Type 0) (held : Held C) �
 are_sent represents held own can =
     let j : Journals = journals_of held.book held.cells in
     let chain : ℕ = held.book.opening.name.chain in
-    let log : List Entry = own.history.log in
+    let log : List HistoryEntry = own.history.log in
     let lines : List MergedStep = lines_in chain log in
     let order : AreCausal chain j.members lines = causal chain (members_of held.book.opening.config) (members_in chain log) lines own.history.first (own.history.rule.chains chain) in
     let master : lines_of 0 lines ≡ map book_line j.book =

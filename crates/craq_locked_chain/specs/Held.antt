@@ -15,7 +15,7 @@ use Rattle.craq_seat.specs.Books.{IsBook, members_of}
 use Rattle.craq_seat.specs.Calls.{Called}
 use Rattle.craq_seat.specs.Cells.{Celled}
 use Rattle.craq_seat.specs.Kept.{IsKept}
-use Rattle.craq_store_history.specs.declared.entry.Entry.{Entry}
+use Rattle.craq_store_history.specs.declared.entry.HistoryEntry.{HistoryEntry}
 use Rattle.craq_store_history.specs.Chains.{IsHistory}
 use Rattle.craq_store_history.specs.Entries.{members_in}
 use Rattle.craq_store_parts.specs.Recorded.{BookHasLinesIn, HasLinesIn}
@@ -33,7 +33,7 @@ cell_in seat = (mutex_guard_value seat).desk.cell
 -- one history, which keeps the rule, has the steps of all these journals: each author's lines there
 -- are its journal, if it keeps one. The chain was opened there with the master's first members
 pub record HaveHistory {C : Type 0} (held : Held C) : Type 0 where
-  pub log : List Entry
+  pub log : List HistoryEntry
   pub rule : IsHistory log
   pub first : members_in held.book.opening.name.chain log ≡ Some (members_of held.book.opening.config)
   pub book : BookHasLinesIn log held.book

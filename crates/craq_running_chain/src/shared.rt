@@ -17,7 +17,7 @@ use craq_node::Core;
 use craq_running_node::{
     Asked, CallRefusal, Delivery, Gate, OwnAsk, OwnReply, QueuedAsk, RunningNode, Work, refuse_own,
 };
-use craq_store_history::{Entry, StoreRule};
+use craq_store_history::{HistoryEntry, StoreRule};
 use craq_store_parts::{Kind, Messages, Outgoing, Refused, StoreHistory, Wire};
 use std::alloc::Global;
 use std::sync::{Mutex, Wait};
@@ -29,7 +29,7 @@ pub struct Shared<C: Core + Named, G: Gate> {
     /// The history of what the store does. It exists in the proofs alone, except one word.
     pub history: StoreHistory<C>,
     /// Gives the rights to the entries of nodes and clients.
-    pub registrar: Mutex<Registrar<Entry, StoreRule, C>>,
+    pub registrar: Mutex<Registrar<HistoryEntry, StoreRule, C>>,
     pub gate: G,
     /// One thread runs each chain: the gate's reply when the store started.
     pub chain_threads: bool,

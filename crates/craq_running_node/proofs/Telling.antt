@@ -219,11 +219,11 @@ waits_nowhere token accepted a old new caller back reply before after is made gi
     let to : reply ≡ without_room (waits_as a.ticket token) = so ∙ ap without_room (given ∙ made) in
     subst (λ (o : Option Accepted). Waits token (ticket_in o) old new before after) (sym is) (inr (same, subst (λ (r : Reply). Keeps before (r ∷ []) after) to kept))
 
-under_ticket : (name : NodeName) (call : CallId) (ticket : Option ℕ) → ticket_in (accepted_under name (Some call) ticket) ≡ ticket
-under_ticket name call None = refl
-under_ticket name call (Some ticket) = refl
+under_ticket : (name : NodeName) (stamp pass : ℕ) (call : CallId) (ticket : Option ℕ) → ticket_in (accepted_under name stamp pass (Some call) ticket) ≡ ticket
+under_ticket name stamp pass call None = refl
+under_ticket name stamp pass call (Some ticket) = refl
 
 -- the call that a step accepted has the step's ticket
-pub ticket_accepted : (name : NodeName) (call : CallId) (last : Option Step) (accepted : Option Accepted) → IsSome last → IfSome last (λ (step : Step). accepted ≡ accepted_under name (Some call) step.ticket) → ticket_in accepted ≡ ticket_of last
-ticket_accepted name call None accepted moved is = absurd cc
-ticket_accepted name call (Some step) accepted moved is = ap ticket_in is ∙ under_ticket name call step.ticket
+pub ticket_accepted : (name : NodeName) (stamp pass : ℕ) (call : CallId) (last : Option Step) (accepted : Option Accepted) → IsSome last → IfSome last (λ (step : Step). accepted ≡ accepted_under name stamp pass (Some call) step.ticket) → ticket_in accepted ≡ ticket_of last
+ticket_accepted name stamp pass call None accepted moved is = absurd cc
+ticket_accepted name stamp pass call (Some step) accepted moved is = ap ticket_in is ∙ under_ticket name stamp pass call step.ticket

@@ -18,8 +18,8 @@ use Rattle.craq_seat.specs.Merge.{AtMaster as HappensAtMaster, AtNode as Happens
 use Rattle.craq_causality.proofs.Orders.{IsIn, from_contains, in_either, in_get}
 use Rattle.craq_merge.proofs.Named.{IsAskOf, ask_of_line}
 use Rattle.craq_store_history.specs.declared.entry.CallId.{CallId}
-use Rattle.craq_store_history.specs.declared.entry.Entry.{Entry}
-use Rattle.craq_store_history.specs.declared.entry.Entry.TheVariants.{AtMaster, AtNode, Called, Opened, Withdrawn}
+use Rattle.craq_store_history.specs.declared.entry.HistoryEntry.{HistoryEntry}
+use Rattle.craq_store_history.specs.declared.entry.HistoryEntry.TheVariants.{MasterStep, NodeStep, ClientCall, ChainOpened, CallTakenBack}
 use Rattle.craq_store_history.specs.Entries.{line_in, lines_in, master_record, node_record}
 use Rattle.craq_store_history.proofs.Between.{asked_by, may_call}
 use Rattle.craq_running_promise.specs.Standing.{HasChain, WasAsked, explanation_of_chain, updates_of_chain, view_of_chain}
@@ -70,16 +70,16 @@ its_update (asks.Read mode object) update h = absurd (cc)
 
 -- ---- the entry of a line
 
-record HasEntry (c : ℕ) (log : List Entry) (event : Event) : Type 0 where
-  pub done : List Entry
-  pub rest : List Entry
+record HasEntry (c : ℕ) (log : List HistoryEntry) (event : Event) : Type 0 where
+  pub done : List HistoryEntry
+  pub rest : List HistoryEntry
   pub name : NodeName
   pub stamp : ℕ
   pub held : Snapshot Event
   pub pass : ℕ
   pub step : Snapshot Step
   pub call : Option CallId
-  pub is : log ≡ done ++ AtNode name stamp held pass step call ∷ rest
+  pub is : log ≡ done ++ NodeStep name stamp held pass step call ∷ rest
   pub of_chain : name.chain ≡ c
   pub event_is : held.value ≡ event
 
@@ -89,10 +89,10 @@ two_events h b e s t = cc
 same_event : (h : Happening) (d e : Event) → HappensAtNode d ≡ h → h ≡ HappensAtNode e → d ≡ e
 same_event h d e s t = cc
 
-here : (c : ℕ) (x : Entry) (xs : List Entry) (l : MergedStep) (event : Event) → IsIn (line_in c x) l → l.event ≡ HappensAtNode event → HasEntry c (x ∷ xs) event
-here c (Opened chain members) xs l event i e = absurd i
-here c (Called call name ask) xs l event i e = absurd i
-here c (AtNode name stamp held pass step call) xs l event i e =
+here : (c : ℕ) (x : HistoryEntry) (xs : List HistoryEntry) (l : MergedStep) (event : Event) → IsIn (line_in c x) l → l.event ≡ HappensAtNode event → HasEntry c (x ∷ xs) event
+here c (ChainOpened chain members) xs l event i e = absurd i
+here c (ClientCall call name ask) xs l event i e = absurd i
+here c (NodeStep name stamp held pass step call) xs l event i e =
     let p = in_if (name.chain == c) (node_line name.node (node_record stamp held pass step)) l i in
     record {
       done = [];
@@ -107,23 +107,23 @@ here c (AtNode name stamp held pass step call) xs l event i e =
       of_chain = eqb-true name.chain c p.0;
       event_is = same_event l.event held.value event (ap (λ (y : MergedStep). y.event) p.1) e;
     }
-here c (AtMaster chain stamp ordered pass step) xs l event i e =
+here c (MasterStep chain stamp ordered pass step) xs l event i e =
     let p = in_if (chain == c) (book_line (master_record stamp ordered pass step)) l i in
     absurd (two_events l.event ordered event (ap (λ (y : MergedStep). y.event) p.1) e)
-here c (Withdrawn call) xs l event i e = absurd i
+here c (CallTakenBack call) xs l event i e = absurd i
 
-entry_of : (c : ℕ) (log : List Entry) (l : MergedStep) (event : Event) → IsIn (lines_in c log) l → l.event ≡ HappensAtNode event → HasEntry c log event
+entry_of : (c : ℕ) (log : List HistoryEntry) (l : MergedStep) (event : Event) → IsIn (lines_in c log) l → l.event ≡ HappensAtNode event → HasEntry c log event
 unfolding lines_in
 entry_of c [] l event i e = absurd i
 entry_of c (x ∷ xs) l event i e =
     elim (in_either (line_in c x) (lines_in c xs) l i) [
       | inl k ↦ here c x xs l event k e
-      | inr k ↦ (let t = entry_of c xs l event k e in record { done = x ∷ t.done; rest = t.rest; name = t.name; stamp = t.stamp; held = t.held; pass = t.pass; step = t.step; call = t.call; is = ap (λ (zs : List Entry). x ∷ zs) t.is; of_chain = t.of_chain; event_is = t.event_is })
+      | inr k ↦ (let t = entry_of c xs l event k e in record { done = x ∷ t.done; rest = t.rest; name = t.name; stamp = t.stamp; held = t.held; pass = t.pass; step = t.step; call = t.call; is = ap (λ (zs : List HistoryEntry). x ∷ zs) t.is; of_chain = t.of_chain; event_is = t.event_is })
     ]
 
 -- ---- the call
 
-pub was_asked : (chain : ℕ) (members : List ℕ) (log : List Entry) (update : Update) → HasChain chain members log → Contains (updates_of_chain chain members log) update → WasAsked chain log update
+pub was_asked : (chain : ℕ) (members : List ℕ) (log : List HistoryEntry) (update : Update) → HasChain chain members log → Contains (updates_of_chain chain members log) update → WasAsked chain log update
 was_asked chain members log update h there =
     let lines : List MergedStep = lines_in chain log in
     let e : Explanation = explanation_of_chain chain members log in
@@ -132,10 +132,10 @@ was_asked chain members log update h there =
     let r : IsRequest requests update = request_of requests n.0 update n.1 in
     let t : IsAskOf lines 1 r.asked = ask_of_line lines lines 1 r.asked r.there in
     let x : HasEntry chain log (events.Ask t.ask) = entry_of chain log t.line (events.Ask t.ask) (in_get lines t.place t.line t.at) t.event in
-    let entry : Entry = AtNode x.name x.stamp x.held x.pass x.step x.call in
+    let entry : HistoryEntry = NodeStep x.name x.stamp x.held x.pass x.step x.call in
     let c = asked_by x.done x.name x.held.value x.call t.ask (may_call log x.done x.rest entry h.history x.is) x.event_is in
     let ask_is : t.ask ≡ asks.Update update = sym (ap (λ (y : Asked). y.ask) t.is) ∙ its_update r.asked.ask update r.update_is in
-    let called : Entry = Called c.0 x.name c.2.0 in
+    let called : HistoryEntry = ClientCall c.0 x.name c.2.0 in
     record {
       node = x.name;
       call = c.0;

@@ -20,7 +20,7 @@ use Rattle.craq_seat.specs.Calls.{Called}
 use Rattle.craq_seat.specs.Merge.{MergedStep}
 use Rattle.craq_causality.proofs.Orders.{IsIn, from_contains, to_contains}
 use Rattle.craq_causality.proofs.Walk.{taken_among}
-use Rattle.craq_store_history.specs.declared.entry.Entry.{Entry}
+use Rattle.craq_store_history.specs.declared.entry.HistoryEntry.{HistoryEntry}
 use Rattle.craq_store_history.specs.Entries.{lines_in, members_in}
 use Rattle.craq_store_history.proofs.Lines.{lines_prefix}
 use Rattle.craq_running_promise.specs.Standing.{AnswersAsOneCopy, AnswersByMode, HasChain, HasMoves, IsCallInRun, IsOperationOf, Operation, IsCallInHistory, explanation_of_chain, reply_at, run_in, updates_of_chain, view_of_chain}
@@ -115,7 +115,7 @@ same_members : (o : Option (List ℕ)) (xs ys : List ℕ) → o ≡ Some xs → 
 same_members o xs ys h k = cc
 
 -- the moves of an operation whose request and reply stand in the history
-moves_of : (o : Operation) (members : List ℕ) (log : List Entry) → HasChain o.node.chain members log → (s : IsCallInHistory o.old o.new o.node o.ask o.receipt log) → o.receipt.answer ≡ o.answer → HasMoves o members log
+moves_of : (o : Operation) (members : List ℕ) (log : List HistoryEntry) → HasChain o.node.chain members log → (s : IsCallInHistory o.old o.new o.node o.ask o.receipt log) → o.receipt.answer ≡ o.answer → HasMoves o members log
 moves_of o members log h s is =
     let call : IsCallInRun o.node o.ask o.receipt (suc s.asked_place) (suc s.answered_place) (run_in o.node.chain s.members log) = is_call o.old o.new log o.node o.ask o.receipt s h.history h.few in
     let same : s.members ≡ members = same_members (members_in o.node.chain log) s.members members s.opened h.opened in
@@ -130,15 +130,15 @@ moves_of o members log h s is =
       by_then = omega (arith, by_then);
     }
 
-its_moves : (client : ℕ) (o : Operation) (members : List ℕ) (log : List Entry) → IsOperationOf client o → IsPrefix o.new log → HasChain o.node.chain members log → HasMoves o members log
+its_moves : (client : ℕ) (o : Operation) (members : List ℕ) (log : List HistoryEntry) → IsOperationOf client o → IsPrefix o.new log → HasChain o.node.chain members log → HasMoves o members log
 its_moves client o members log w p h =
     let t = stands client o.old o.new log o.node o.ask o.answer o.receipt w p h.history in
     moves_of o members log h t.0 t.1
 
-is_explained : (chain : ℕ) (members : List ℕ) (log : List Entry) → HasChain chain members log → IsValid (run_in chain members log) (explanation_of_chain chain members log)
+is_explained : (chain : ℕ) (members : List ℕ) (log : List HistoryEntry) → HasChain chain members log → IsValid (run_in chain members log) (explanation_of_chain chain members log)
 is_explained chain members log h = (has_explanation log chain members h.history h.opened h.few).1
 
-from_place : (o : Operation) (members : List ℕ) (log : List Entry) (m : HasMoves o members log)
+from_place : (o : Operation) (members : List ℕ) (log : List HistoryEntry) (m : HasMoves o members log)
     → HasPlace o.node o.ask o.receipt m.asked m.answered (view_of_chain o.node.chain members log) (explanation_of_chain o.node.chain members log) → AnswersAsOneCopy o members log
 from_place o members log m p = record {
   moves = m;
@@ -149,17 +149,17 @@ from_place o members log m p = record {
   is_said = subst (λ (x : Answer). IsSaid (after (take p.position (updates_of_chain o.node.chain members log))) o.ask x) m.is_answer p.is_said;
 }
 
-pub one_copy : (client : ℕ) (o : Operation) (members : List ℕ) (log : List Entry) → IsOperationOf client o → IsPrefix o.new log → HasChain o.node.chain members log → is_strong_ask o.ask ≡ true → AnswersAsOneCopy o members log
+pub one_copy : (client : ℕ) (o : Operation) (members : List ℕ) (log : List HistoryEntry) → IsOperationOf client o → IsPrefix o.new log → HasChain o.node.chain members log → is_strong_ask o.ask ≡ true → AnswersAsOneCopy o members log
 one_copy client o members log w p h strong =
     let m = its_moves client o members log w p h in
     from_place o members log m
     (placed o.node o.ask o.receipt m.asked m.answered (run_in o.node.chain members log) (explanation_of_chain o.node.chain members log) m.is_call (is_explained o.node.chain members log h)
     (strong_reply (request o.node o.ask o.receipt m.asked) o.receipt.answer strong))
 
-pub only_grows : (chain : ℕ) (members : List ℕ) (log : List Entry) → HasChain chain members log → OnlyGrows (view_of_chain chain members log) (explanation_of_chain chain members log)
+pub only_grows : (chain : ℕ) (members : List ℕ) (log : List HistoryEntry) → HasChain chain members log → OnlyGrows (view_of_chain chain members log) (explanation_of_chain chain members log)
 only_grows chain members log h = (is_explained chain members log h).checked.list
 
-pub one_reply : (chain : ℕ) (members : List ℕ) (log : List Entry) → HasChain chain members log → IsDistinct same_name (strong_answers (view_of_chain chain members log))
+pub one_reply : (chain : ℕ) (members : List ℕ) (log : List HistoryEntry) → HasChain chain members log → IsDistinct same_name (strong_answers (view_of_chain chain members log))
 one_reply chain members log h = (is_explained chain members log h).checked.strong.once
 
 -- ---- the reply to an eventual or bounded read
@@ -174,7 +174,7 @@ read_of move node ticket (asks.Update u) answer weak said = absurd (cc)
 read_of move node ticket (asks.Read mode object) (answers.Read version value) weak said = record { read = record { mode = mode; object = object; version = version; value = value }; is = refl }
 read_of move node ticket (asks.Read mode object) (answers.Update reply) weak said = absurd (said refl).1
 
-its_read : (o : Operation) (members : List ℕ) (log : List Entry) → HasMoves o members log → HasChain o.node.chain members log → is_strong_ask o.ask ≡ false → IsRead o.ask o.answer
+its_read : (o : Operation) (members : List ℕ) (log : List HistoryEntry) → HasMoves o members log → HasChain o.node.chain members log → is_strong_ask o.ask ≡ false → IsRead o.ask o.answer
 its_read o members log m h weak =
     let s : Seen = view_of_chain o.node.chain members log in
     let e : Explanation = explanation_of_chain o.node.chain members log in
@@ -188,7 +188,7 @@ look_is : (s : Seen) (a : Answered) (r : Asked) (read : ReadAnswer) → ask_of s
 unfolding look_of
 look_is s a r read is by = ap (option_and_then (λ (x : Asked). look_by x.ask a.answer)) is ∙ by
 
-pub by_mode : (client : ℕ) (o : Operation) (members : List ℕ) (log : List Entry) → IsOperationOf client o → IsPrefix o.new log → HasChain o.node.chain members log → is_strong_ask o.ask ≡ false → AnswersByMode o members log
+pub by_mode : (client : ℕ) (o : Operation) (members : List ℕ) (log : List HistoryEntry) → IsOperationOf client o → IsPrefix o.new log → HasChain o.node.chain members log → is_strong_ask o.ask ≡ false → AnswersByMode o members log
 by_mode client o members log w p h weak =
     let m = its_moves client o members log w p h in
     let r : IsRead o.ask o.answer = its_read o members log m h weak in
@@ -223,7 +223,7 @@ as_many all [] = refl
 as_many all (l ∷ lines) = ap suc (as_many all lines)
 
 -- a reply comes before a request, so its prefix is no longer
-pub ordered : (o next : Operation) (members : List ℕ) (log : List Entry) → HasChain o.node.chain members log → next.node.chain ≡ o.node.chain
+pub ordered : (o next : Operation) (members : List ℕ) (log : List HistoryEntry) → HasChain o.node.chain members log → next.node.chain ≡ o.node.chain
     → (first : AnswersAsOneCopy o members log) (second : AnswersAsOneCopy next members log) → IsPrefix next.new log → first.moves.answered < second.moves.asked → first.position ≤ second.position
 ordered o next members log h same first second q less =
     let chain : ℕ = o.node.chain in
@@ -241,7 +241,7 @@ ordered o next members log h same first second q less =
     grown_to s e first.moves.answered (asked - 1) v.checked.list (omega (arith, less)) (omega (arith, many, within, in_turn, then_too)) in
     omega (arith, low, mid, high)
 
-pub no_older : (o next : Operation) (members : List ℕ) (log : List Entry) → HasChain o.node.chain members log → next.node.chain ≡ o.node.chain
+pub no_older : (o next : Operation) (members : List ℕ) (log : List HistoryEntry) → HasChain o.node.chain members log → next.node.chain ≡ o.node.chain
     → (first : AnswersAsOneCopy o members log) (second : AnswersAsOneCopy next members log) → IsPrefix o.new next.old → IsPrefix next.new log → first.position ≤ second.position
 no_older o next members log h same first second p q =
     let chain : ℕ = o.node.chain in

@@ -28,7 +28,7 @@ use Rattle.craq_causality.proofs.Walk.{taken_among}
 use Rattle.craq_updates.specs.ValidEntries.{IsBeginning}
 use Rattle.craq_updates.proofs.Explained.{begins, form_asks, taken_front, typed_front}
 use Rattle.craq_updates.proofs.Found.{find_left}
-use Rattle.craq_store_history.specs.declared.entry.Entry.{Entry}
+use Rattle.craq_store_history.specs.declared.entry.HistoryEntry.{HistoryEntry}
 use Rattle.craq_store_history.specs.Entries.{lines_in}
 use Rattle.craq_store_history.proofs.Adding.{chain_is_a_run}
 use Rattle.craq_store_history.proofs.Lines.{lines_prefix}
@@ -161,7 +161,7 @@ grows_on chain members xs ys o i =
     let typed : IsTypedRunOf chain (run_with members (ts ++ us)) = subst (λ (l : List Taken). IsTypedRunOf chain (run_with members l)) is i in
     subst (λ (l : List Taken). Grows chain (run_with members ts) (run_with members l)) (sym is) (grows_by chain members ts us typed)
 
-pub grows : (chain : ℕ) (members : List ℕ) (log more : List Entry) → HasChain chain members log → HasChain chain members more → IsPrefix log more → ListGrows chain members log more
+pub grows : (chain : ℕ) (members : List ℕ) (log more : List HistoryEntry) → HasChain chain members log → HasChain chain members more → IsPrefix log more → ListGrows chain members log more
 grows chain members log more h k p =
     let xs : List MergedStep = lines_in chain log in
     let q : IsPrefix xs (lines_in chain more) = lines_prefix chain log more p in

@@ -25,7 +25,7 @@ use Rattle.craq_causality.proofs.Start.{is_typed_run, sound, start}
 use Rattle.craq_causality.proofs.Walk.{taken_among}
 use Rattle.craq_merge.proofs.Named.{IsAskOf, IsFound, ask_of_line, finds, one_ticket}
 use Rattle.craq_merge.proofs.Seen.{answered_at, asked_at}
-use Rattle.craq_store_history.specs.declared.entry.Entry.{Entry}
+use Rattle.craq_store_history.specs.declared.entry.HistoryEntry.{HistoryEntry}
 use Rattle.craq_store_history.specs.Chains.{ChainHolds, IsHistory}
 use Rattle.craq_store_history.specs.Entries.{lines_in, members_in}
 use Rattle.craq_running_promise.specs.Standing.{IsCallInRun, IsCallInHistory, run_in}
@@ -148,7 +148,7 @@ causal_in : (chain : ℕ) (o : Option (List ℕ)) (members : List ℕ) (lines : 
 causal_in chain o members lines e h = subst (λ (p : Option (List ℕ)). ChainHolds chain p lines) e h
 
 -- the lines of an opened chain are in causal order
-pub are_causal : (log : List Entry) (chain : ℕ) (members : List ℕ) → IsHistory log → members_in chain log ≡ Some members → AreCausal chain members (lines_in chain log) × AreTyped (lines_in chain log)
+pub are_causal : (log : List HistoryEntry) (chain : ℕ) (members : List ℕ) → IsHistory log → members_in chain log ≡ Some members → AreCausal chain members (lines_in chain log) × AreTyped (lines_in chain log)
 are_causal log chain members h opened = causal_in chain (members_in chain log) members (lines_in chain log) opened (h.chains chain)
 
 as_many : (all lines : List MergedStep) → length (map (taken_among all) lines) ≡ length lines
@@ -170,7 +170,7 @@ in_order chain members moves asked x at move within typed is there =
     (subst (λ (l : List Taken). ask_with (asks_from 1 l) x.node x.ticket ≡ Some asked) c.is is) (subst (λ (l : List Taken). IsIn (answers_from 1 [] l) x) c.is there) (omega (arith, move, long)) in
     omega (arith, le, long)
 
-pub is_call : (old new log : List Entry) (node : NodeName) (ask : Ask) (receipt : Called) (s : IsCallInHistory old new node ask receipt log) → IsHistory log → AreFew (lines_in node.chain log)
+pub is_call : (old new log : List HistoryEntry) (node : NodeName) (ask : Ask) (receipt : Called) (s : IsCallInHistory old new node ask receipt log) → IsHistory log → AreFew (lines_in node.chain log)
     → IsCallInRun node ask receipt (suc s.asked_place) (suc s.answered_place) (run_in node.chain s.members log)
 is_call old new log node ask receipt s h few =
     let lines : List MergedStep = lines_in node.chain log in

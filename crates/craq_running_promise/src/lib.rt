@@ -19,11 +19,11 @@ ghost use Rattle.craq_seat.specs.Calls.{Called};
 ghost use Rattle.craq_seat.specs.Merge.{MergedStep, run_of};
 ghost use Rattle.craq_causality.specs.Causal.{AreCausal, AreFew, AreTyped};
 ghost use Rattle.craq_ghost_history.specs.Histories.{AreComparable};
-ghost use Rattle.craq_store_history.specs.declared.entry.Entry.{Entry};
+ghost use Rattle.craq_store_history.specs.declared.entry.HistoryEntry.{HistoryEntry};
 ghost use Rattle.craq_store_history.specs.Chains.{IsHistory};
 ghost use Rattle.craq_store_history.specs.Entries.{lines_in, members_in};
 ghost use Rattle.craq_store_parts.specs.Witnessed.{IsWitnessed};
-ghost use Rattle.craq_running_promise.specs.Standing.{AnswersAsOneCopy, AnswersByMode, HasChain, IsCallInRun, IsOperationOf, ListGrows, Operation, IsCallInHistory, WasAsked, explanation_of_chain, run_in, updates_of_chain, view_of_chain};
+ghost use Rattle.craq_running_promise.specs.Standing.{AnswersAsOneCopy, AnswersByMode, HasChain, IsAcceptedIn, IsCallInRun, IsOperationOf, ListGrows, Operation, IsCallInHistory, WasAsked, explanation_of_chain, run_in, updates_of_chain, view_of_chain};
 
 /// States that lines in causal order, with each request of its type, have a valid explanation: the
 /// one of `explain`, with one growing list of updates and no request number twice. Each strong
@@ -47,14 +47,14 @@ pub fn causal_lines_are_explained()
 /// - `explained`: that run has a valid explanation: one growing list of updates, no request number
 ///   twice, and a guarantee for each reply.
 pub fn witnessed_calls_are_explained()
-    ensures stands { (client : ℕ) (old new log : List Entry) (node : NodeName) (ask : Ask) (answer : Answer) (receipt : Called)
+    ensures stands { (client : ℕ) (old new log : List HistoryEntry) (node : NodeName) (ask : Ask) (answer : Answer) (receipt : Called)
         → IsWitnessed client old node ask answer receipt new → IsPrefix new log → IsHistory log → IsCallInHistory old new node ask receipt log × (receipt.answer ≡ answer) }
-    ensures together { (client other : ℕ) (old new before after : List Entry) (node at : NodeName) (ask request : Ask) (answer reply : Answer) (receipt its : Called)
+    ensures together { (client other : ℕ) (old new before after : List HistoryEntry) (node at : NodeName) (ask request : Ask) (answer reply : Answer) (receipt its : Called)
         → IsWitnessed client old node ask answer receipt new → IsWitnessed other before at request reply its after → AreComparable new after
-        → (log : List Entry) × IsHistory log × IsPrefix new log × IsPrefix after log × IsCallInHistory old new node ask receipt log × IsCallInHistory before after at request its log }
-    ensures called { (old new log : List Entry) (node : NodeName) (ask : Ask) (receipt : Called) (s : IsCallInHistory old new node ask receipt log) → IsHistory log → AreFew (lines_in node.chain log)
+        → (log : List HistoryEntry) × IsHistory log × IsPrefix new log × IsPrefix after log × IsCallInHistory old new node ask receipt log × IsCallInHistory before after at request its log }
+    ensures called { (old new log : List HistoryEntry) (node : NodeName) (ask : Ask) (receipt : Called) (s : IsCallInHistory old new node ask receipt log) → IsHistory log → AreFew (lines_in node.chain log)
         → IsCallInRun node ask receipt (suc s.asked_place) (suc s.answered_place) (run_in node.chain s.members log) }
-    ensures explained { (log : List Entry) (chain : ℕ) (members : List ℕ) → IsHistory log → members_in chain log ≡ Some members → AreFew (lines_in chain log)
+    ensures explained { (log : List HistoryEntry) (chain : ℕ) (members : List ℕ) → IsHistory log → members_in chain log ≡ Some members → AreFew (lines_in chain log)
         → IsTypedRunOf chain (run_in chain members log) × IsValid (run_in chain members log) (explain chain (run_in chain members log)) }
 {}
 
@@ -73,6 +73,8 @@ pub fn witnessed_calls_are_explained()
 /// - `in_order`: a strong operation has no shorter a prefix than each one that its client had seen
 ///   before its call. So the strong operations of one client are in order, and so are those of two
 ///   clients of which one has seen what the other saw.
+/// - `accepted`: in each history that goes on from what the client has seen, the node accepted the
+///   client's call with the pass of the receipt, in the step that the receipt names.
 /// - `together`: the histories that two clients have seen begin one history, if one of them begins
 ///   the other (`Client::compare`).
 /// - `eventual`: each other reply is to an eventual or a bounded read, and meets the guarantee of its
@@ -87,18 +89,19 @@ pub fn witnessed_calls_are_explained()
 /// - `grows`: the list in a history is a prefix of the list in each later one. So are the commit
 ///   indexes and the linearization points: nothing is explained in another way later.
 pub fn strong_replies_are_of_one_copy()
-    ensures one_copy { (client : ℕ) (o : Operation) (members : List ℕ) (log : List Entry) → IsOperationOf client o → IsPrefix o.new log → HasChain o.node.chain members log → is_strong_ask o.ask ≡ true
+    ensures one_copy { (client : ℕ) (o : Operation) (members : List ℕ) (log : List HistoryEntry) → IsOperationOf client o → IsPrefix o.new log → HasChain o.node.chain members log → is_strong_ask o.ask ≡ true
         → AnswersAsOneCopy o members log }
-    ensures in_run_order { (o next : Operation) (members : List ℕ) (log : List Entry) → HasChain o.node.chain members log → next.node.chain ≡ o.node.chain
+    ensures in_run_order { (o next : Operation) (members : List ℕ) (log : List HistoryEntry) → HasChain o.node.chain members log → next.node.chain ≡ o.node.chain
         → (first : AnswersAsOneCopy o members log) (second : AnswersAsOneCopy next members log) → IsPrefix next.new log → first.moves.answered < second.moves.asked → first.position ≤ second.position }
-    ensures in_order { (o next : Operation) (members : List ℕ) (log : List Entry) → HasChain o.node.chain members log → next.node.chain ≡ o.node.chain
+    ensures in_order { (o next : Operation) (members : List ℕ) (log : List HistoryEntry) → HasChain o.node.chain members log → next.node.chain ≡ o.node.chain
         → (first : AnswersAsOneCopy o members log) (second : AnswersAsOneCopy next members log) → IsPrefix o.new next.old → IsPrefix next.new log → first.position ≤ second.position }
+    ensures accepted { (client : ℕ) (o : Operation) (log : List HistoryEntry) → IsOperationOf client o → IsPrefix o.new log → IsAcceptedIn client o log }
     ensures together { (client other : ℕ) (o next : Operation) → IsOperationOf client o → IsOperationOf other next → AreComparable o.new next.new
-        → (log : List Entry) × IsHistory log × IsPrefix o.new log × IsPrefix next.new log }
-    ensures eventual { (client : ℕ) (o : Operation) (members : List ℕ) (log : List Entry) → IsOperationOf client o → IsPrefix o.new log → HasChain o.node.chain members log → is_strong_ask o.ask ≡ false
+        → (log : List HistoryEntry) × IsHistory log × IsPrefix o.new log × IsPrefix next.new log }
+    ensures eventual { (client : ℕ) (o : Operation) (members : List ℕ) (log : List HistoryEntry) → IsOperationOf client o → IsPrefix o.new log → HasChain o.node.chain members log → is_strong_ask o.ask ≡ false
         → AnswersByMode o members log }
-    ensures asked { (chain : ℕ) (members : List ℕ) (log : List Entry) (update : Update) → HasChain chain members log → Contains (updates_of_chain chain members log) update → WasAsked chain log update }
-    ensures once { (chain : ℕ) (members : List ℕ) (log : List Entry) → HasChain chain members log → OnlyGrows (view_of_chain chain members log) (explanation_of_chain chain members log) }
-    ensures one_reply { (chain : ℕ) (members : List ℕ) (log : List Entry) → HasChain chain members log → IsDistinct same_name (strong_answers (view_of_chain chain members log)) }
-    ensures grows { (chain : ℕ) (members : List ℕ) (log more : List Entry) → HasChain chain members log → HasChain chain members more → IsPrefix log more → ListGrows chain members log more }
+    ensures asked { (chain : ℕ) (members : List ℕ) (log : List HistoryEntry) (update : Update) → HasChain chain members log → Contains (updates_of_chain chain members log) update → WasAsked chain log update }
+    ensures once { (chain : ℕ) (members : List ℕ) (log : List HistoryEntry) → HasChain chain members log → OnlyGrows (view_of_chain chain members log) (explanation_of_chain chain members log) }
+    ensures one_reply { (chain : ℕ) (members : List ℕ) (log : List HistoryEntry) → HasChain chain members log → IsDistinct same_name (strong_answers (view_of_chain chain members log)) }
+    ensures grows { (chain : ℕ) (members : List ℕ) (log more : List HistoryEntry) → HasChain chain members log → HasChain chain members more → IsPrefix log more → ListGrows chain members log more }
 {}

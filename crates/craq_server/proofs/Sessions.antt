@@ -1,7 +1,9 @@
 -- The session of a connection after a call was submitted or finished.
-use Rattle.std.proofs.Common.{◌≡◌, ◌⊎◌, ◌∙◌, ℕ, zero, suc, [], Option, None, Some, Result, Ok, Err, IfErr, IfOk, IsSome, inl, inr, refl, subst, sym, ap, arith}
+use Rattle.std.proofs.Common.{◌≡◌, ◌⊎◌, ◌∙◌, ◌+◌, ◌<◌, ◌≤◌, ◌↔◌, Bool, false, IsTrue, ℕ, zero, suc, [], Option, None, Some, Result, Ok, Err, IfErr, IfOk, IsSome, inl, inr, refl, subst, sym, ap, arith}
 use Rattle.std.proofs.lemmas.List.{append-nil}
+use Rattle.std.proofs.Math.Nat.{lt_of_not-le}
 use Rattle.craq_commands.specs.declared.read_mode.ReadMode.TheVariants as modes
+use Rattle.craq_names.specs.Limits.{greatest}
 use Rattle.craq_names.specs.declared.name.NodeName.{NodeName}
 use Rattle.craq_names.specs.declared.refusal.Refusal.{Refusal}
 use Rattle.craq_names.specs.declared.refusal.Refusal.TheVariants as refusals
@@ -11,14 +13,15 @@ use Rattle.craq_model.specs.declared.ask.Ask.TheVariants as asks
 use Rattle.craq_completions.specs.Refused.{CanRefuse}
 use Rattle.craq_frames.specs.Payload.{NamesNode}
 use Rattle.craq_session.proofs.Reportable.{can_encode}
-use Rattle.craq_server.specs.Refusing.{RefusesServed}
+use Rattle.craq_session.specs.declared.call_request.CallRequest.{CallRequest}
+use Rattle.craq_server.specs.Refusing.{Leaps, RefusesServed}
 use Rattle.craq_seat.specs.Calls.{Called}
 use Rattle.craq_store_history.specs.declared.entry.CallId.{CallId}
 use Rattle.craq_store_history.specs.Chains.{IsHistory}
 use Rattle.craq_store_parts.specs.Recorded.{HasAccepted, HasReplied}
 use Rattle.craq_store_parts.specs.Sent.{IsMade}
 use Rattle.craq_workers.specs.Untaken.{IsGivenUp, LeavesOpen}
-use Rattle.craq_server.specs.Sessions.{CallsOnce, Connected, Finishes, GivesUp, MakesCall, SeesMore, next_call}
+use Rattle.craq_server.specs.Sessions.{CallsOnce, Connected, Finishes, FinishesAnswered, GivesUp, MakesCall, SeesMore, Submits, next_call}
 
 -- no call was under way
 pub sees_as_much : (old new : Connected) → new.client ≡ old.client → new.made ≡ old.made → new.seen ≡ old.seen → SeesMore old new
@@ -30,22 +33,40 @@ pub makes_call : (old new : Connected) (node : NodeName) (ask : Ask) (call : Cal
 makes_call old new node ask call is under_way added once =
     (under_way ∙ ap (λ (x : CallId). Some x) is, subst (λ (x : CallId). IsMade old.seen x node ask new.seen) is added, once)
 
+-- a call that the session could not make
+pub refused_by_make : (leap : ℕ) (old new : Connected) (q : CallRequest) (e : Refusal) → (e ≡ refusals.UnknownChain) ⊎ (e ≡ refusals.Memory) ⊎ ((e ≡ refusals.Exhausted) × (old.made ≡ greatest)) → new ≡ old
+    → Submits leap old q (Some (Err e)) new
+refused_by_make leap old new q e (inl unknown) same = (inl unknown, same)
+refused_by_make leap old new q e (inr (inl memory)) same = (inr (inl memory), same)
+refused_by_make leap old new q e (inr (inr none)) same = (inr (inr (none.0, inl none.1)), same)
+
+-- a call whose pass the server does not take
+pub refused_for_pass : (leap : ℕ) (old new : Connected) (q : CallRequest) → Leaps leap q.pass → new ≡ old → Submits leap old q (Some (Err refusals.Exhausted)) new
+refused_for_pass leap old new q leaps same = (inr (inr (refl, inr leaps)), same)
+
+-- a pass that is not taken
+pub leaps : (known leap pass : ℕ) (taken : Bool) → IsTrue taken ↔ ((leap ≡ 0) ⊎ (pass ≤ known + leap)) → taken ≡ false → Leaps leap pass
+leaps known leap pass taken says untaken =
+    let never : ¬ ((leap ≡ 0) ⊎ (pass ≤ known + leap)) = λ may. (let yes : IsTrue taken = says.1 may in cc) in
+    let above : known + leap < pass = lt_of_not-le (λ within. never (inr within)) in
+    (λ unset. never (inl unset), omega (arith, above))
+
 -- a call was finished by an answer
 pub finishes_made : (old new : Connected) (node : NodeName) (reply : Called) (call : CallId) (r : Result Called Refusal) → old.call ≡ Some call
-    → IfOk r (λ c. c ≡ reply) → IfOk r (λ c. HasAccepted new.seen node call c.call.ticket) → IfOk r (λ c. HasReplied new.seen node c) → IfOk r (λ c. IsHistory new.seen)
-    → IfErr r (λ e. e ≡ Closed) → SeesMore old new → Finishes old node (Ok reply) r new
+    → IfOk r (λ c. c ≡ reply) → IfOk r (λ c. HasAccepted new.seen node call c.call) → IfOk r (λ c. HasReplied new.seen node c) → IfOk r (λ c. IsHistory new.seen)
+    → IfErr r (λ e. e ≡ Closed) → SeesMore old new → FinishesAnswered old node reply r new
 finishes_made old new node reply call (Ok c) is receipt accepted replied history closed more = (receipt, (call, is, accepted, replied), history, more)
 finishes_made old new node reply call (Err e) is receipt accepted replied history closed more = (closed, more)
 
 -- a call was given up
-pub gives_up_made : (old new : Connected) (came reported : Refusal) (call : CallId) → old.call ≡ Some call → (reported ≡ came) ⊎ (reported ≡ Closed)
-    → (LeavesOpen came → reported ≡ came) → LeavesOpen reported ⊎ IsGivenUp new.seen call reported → SeesMore old new → GivesUp old came reported new
-gives_up_made old new came reported call is either kept (inl leaves) more = record { either = either; kept = λ _. kept; untaken = inl leaves; sees = more }
-gives_up_made old new came reported call is either kept (inr up) more = record { either = either; kept = λ _. kept; untaken = inr (call, is, up); sees = more }
+pub gives_up_made : (old new : Connected) (pass : ℕ) (came reported : Refusal) (call : CallId) → old.call ≡ Some call → (reported ≡ came) ⊎ (reported ≡ Closed)
+    → (LeavesOpen came → reported ≡ came) → LeavesOpen reported ⊎ IsGivenUp new.seen call pass reported → SeesMore old new → GivesUp old pass came reported new
+gives_up_made old new pass came reported call is either kept (inl leaves) more = record { either = either; kept = λ _. kept; untaken = inl leaves; sees = more }
+gives_up_made old new pass came reported call is either kept (inr up) more = record { either = either; kept = λ _. kept; untaken = inr (call, is, up); sees = more }
 
 -- no call was under way, and none is given up
-pub gives_none_up : (old new : Connected) (came : Refusal) → old.call ≡ None → new.client ≡ old.client → new.made ≡ old.made → new.seen ≡ old.seen → GivesUp old came Closed new
-gives_none_up old new came none client made seen = record {
+pub gives_none_up : (old new : Connected) (pass : ℕ) (came : Refusal) → old.call ≡ None → new.client ≡ old.client → new.made ≡ old.made → new.seen ≡ old.seen → GivesUp old pass came Closed new
+gives_none_up old new pass came none client made seen = record {
   either = inr refl;
   kept = λ some. (let no : IsSome {T = CallId} None = subst (λ (call : Option CallId). IsSome call) none some in cc);
   untaken = inl tt;
@@ -77,11 +98,11 @@ can_open ask refusals.Memory leaves = tt
 can_open ask refusals.Closed leaves = tt
 can_open ask e leaves = absurd leaves
 
-module _ (old new : Connected) (ask : Ask) (came e : Refusal) (up : GivesUp old came e new) where
-  as_itself : (reported : Refusal) → reported ≡ e → GivesUp old came reported new
-  as_itself reported is = subst (λ (x : Refusal). GivesUp old came x new) (sym is) up
+module _ (old new : Connected) (pass : ℕ) (ask : Ask) (came e : Refusal) (up : GivesUp old pass came e new) where
+  as_itself : (reported : Refusal) → reported ≡ e → GivesUp old pass came reported new
+  as_itself reported is = subst (λ (x : Refusal). GivesUp old pass came x new) (sym is) up
 
-  as_closed : (reported : Refusal) → (CanRefuse ask e → reported ≡ e) → reported ≡ Closed → GivesUp old came reported new
+  as_closed : (reported : Refusal) → (CanRefuse ask e → reported ≡ e) → reported ≡ Closed → GivesUp old pass came reported new
   as_closed reported same closed = record {
     either = inr closed;
     kept = λ some leaves.
@@ -92,21 +113,21 @@ module _ (old new : Connected) (ask : Ask) (came e : Refusal) (up : GivesUp old 
     sees = up.sees;
   }
 
-  as_either : (reported : Refusal) → (CanRefuse ask e → reported ≡ e) → (reported ≡ e) ⊎ (reported ≡ Closed) → GivesUp old came reported new
+  as_either : (reported : Refusal) → (CanRefuse ask e → reported ≡ e) → (reported ≡ e) ⊎ (reported ≡ Closed) → GivesUp old pass came reported new
   as_either reported same (inl is) = as_itself reported is
   as_either reported same (inr is) = as_closed reported same is
 
   -- so it is where a refusal that this request cannot have becomes Closed
-  gives_up_possibly : (reported : Refusal) → (CanRefuse ask e → reported ≡ e) → (¬ (CanRefuse ask e) → reported ≡ Closed) → GivesUp old came reported new
+  gives_up_possibly : (reported : Refusal) → (CanRefuse ask e → reported ≡ e) → (¬ (CanRefuse ask e) → reported ≡ Closed) → GivesUp old pass came reported new
   gives_up_possibly reported same closed = as_either reported same (possible ask e reported same closed)
 
 -- the call of a request is finished, and a refusal that the request cannot have becomes Closed
-pub finishes_possibly : (old new : Connected) (node : NodeName) (ask : Ask) (reply : Result Called Refusal) (e reported : Refusal) → Finishes old node reply (Err e) new
-    → (CanRefuse ask e → reported ≡ e) → (¬ (CanRefuse ask e) → reported ≡ Closed) → Finishes old node reply (Err reported) new
-finishes_possibly old new node ask (Ok c) e reported f same closed =
+pub finishes_possibly : (old new : Connected) (node : NodeName) (pass : ℕ) (ask : Ask) (reply : Result Called Refusal) (e reported : Refusal) → Finishes old node pass reply (Err e) new
+    → (CanRefuse ask e → reported ≡ e) → (¬ (CanRefuse ask e) → reported ≡ Closed) → Finishes old node pass reply (Err reported) new
+finishes_possibly old new node pass ask (Ok c) e reported f same closed =
     let can : CanRefuse ask e = subst (λ (x : Refusal). CanRefuse ask x) (sym f.0) tt in
     (same can ∙ f.0, f.1)
-finishes_possibly old new node ask (Err came) e reported f same closed = gives_up_possibly old new ask came e f reported same closed
+finishes_possibly old new node pass ask (Err came) e reported f same closed = gives_up_possibly old new pass ask came e f reported same closed
 
 -- each refusal of a call that was not made has an encoding
 refusal_encodable : (chains : ℕ) (node : NodeName) (ask : Ask) (e : Refusal) → RefusesServed chains node ask e → NamesNode e

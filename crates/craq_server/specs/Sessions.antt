@@ -1,6 +1,7 @@
 -- The session of a connection of a served store, and the calls that it makes and finishes.
 use Rattle.std.specs.Prelude.{◌≡◌, ◌≢◌, ◌⊎◌, ◌+◌, ℕ, List, [], ◌∷◌, Option, None, Some, IsSome, Result, Ok, Err, length}
 use mathlib.Core.List.{IsPrefix}
+use Rattle.craq_names.specs.Limits.{greatest}
 use Rattle.craq_names.specs.declared.name.NodeName.{NodeName}
 use Rattle.craq_names.specs.declared.refusal.Refusal.{Refusal}
 use Rattle.craq_names.specs.declared.refusal.Refusal.TheVariants.{Closed, Exhausted, Memory, UnknownChain}
@@ -10,7 +11,7 @@ use Rattle.craq_frames.specs.declared.ask.ClientMessage.{ClientMessage}
 use Rattle.craq_frames.specs.declared.ask.ClientMessage.TheVariants as messages
 use Rattle.craq_frames.specs.declared.answer.ClientReply.{ClientReply}
 use Rattle.craq_frames.specs.declared.answer.ClientReply.TheVariants as replies
-use Rattle.craq_front.specs.Talk.{History}
+use Rattle.craq_front.specs.Talk.{Exchanges}
 use Rattle.craq_completions.specs.declared.token.Token.{Token}
 use Rattle.craq_seat.specs.Calls.{Called}
 use Rattle.craq_session.specs.Asking.{called_by}
@@ -20,7 +21,7 @@ use Rattle.craq_session.specs.declared.connection_state.Phase.TheVariants.{Waits
 use Rattle.craq_session.specs.ConnectionStates.{Holds}
 use Rattle.craq_session.specs.Turns.{IsReplyOf, message_of, name_of}
 use Rattle.craq_store_history.specs.declared.entry.CallId.{CallId}
-use Rattle.craq_store_history.specs.declared.entry.Entry.{Entry}
+use Rattle.craq_store_history.specs.declared.entry.HistoryEntry.{HistoryEntry}
 use Rattle.craq_store_history.specs.Chains.{IsHistory}
 use Rattle.craq_store_parts.specs.Recorded.{HasAccepted, HasReplied}
 use Rattle.craq_store_parts.specs.Sent.{IsMade}
@@ -28,7 +29,7 @@ use Rattle.craq_store_parts.specs.Witnessed.{IsWitnessed}
 use Rattle.craq_event_loop.specs.Reaching.{IsReachable}
 use Rattle.craq_workers.specs.Stores.{Stored}
 use Rattle.craq_workers.specs.Untaken.{IsGivenUp, IsRefusedCall, LeavesOpen}
-use Rattle.craq_server.specs.Refusing.{RefusesServed}
+use Rattle.craq_server.specs.Refusing.{Leaps, RefusesServed}
 use Rattle.craq_server.specs.Status.{TellsStatus}
 
 -- the view that contracts have of a connection's session: its client's number, the number of calls that it made, the history that it
@@ -36,7 +37,7 @@ use Rattle.craq_server.specs.Status.{TellsStatus}
 pub record Connected : Type 0 where
   pub client : ℕ
   pub made : ℕ
-  pub seen : List Entry
+  pub seen : List HistoryEntry
   pub call : Option CallId
 
 -- the session is new: it made no call and has seen nothing, and no call is under way
@@ -59,40 +60,44 @@ CallsOnce old new = (new.client ≡ old.client) × (new.made ≡ old.made + 1) �
 abbrev pub MakesCall : Connected → NodeName → Ask → Connected → Type 0
 MakesCall old node ask new = (new.call ≡ Some (next_call old)) × IsMade old.seen (next_call old) node ask new.seen × CallsOnce old new
 
--- the refusals of a request for which no call is made: the store has no such chain, memory is out, or its pass is too far above those in
--- earlier replies, or the session made too many calls
-abbrev pub RefusesFirst : Refusal → Type 0
-RefusesFirst e = (e ≡ UnknownChain) ⊎ (e ≡ Memory) ⊎ (e ≡ Exhausted)
+-- the refusals of a request with this pass for which no call is made: the store has no such chain, or memory is out; or the session made
+-- 2 ^ 64 - 1 calls, or the pass lies further above one in earlier replies than a server with this bound allows
+abbrev pub RefusesFirst : ℕ → Connected → ℕ → Refusal → Type 0
+RefusesFirst most_leap old pass e = (e ≡ UnknownChain) ⊎ (e ≡ Memory) ⊎ ((e ≡ Exhausted) × ((old.made ≡ greatest) ⊎ Leaps most_leap pass))
 
 -- a call was submitted; or it was refused before it was made, and the session is as it was
-abbrev pub Submits : Connected → CallRequest → Option (Result (Result Called Refusal) Refusal) → Connected → Type 0
-Submits old q (Some (Err e)) new = RefusesFirst e × (new ≡ old)
-Submits old q came new = MakesCall old q.node q.ask new
+abbrev pub Submits : ℕ → Connected → CallRequest → Option (Result (Result Called Refusal) Refusal) → Connected → Type 0
+Submits most_leap old q (Some (Err e)) new = RefusesFirst most_leap old q.pass e × (new ≡ old)
+Submits most_leap old q came new = MakesCall old q.node q.ask new
 
--- the session gave up its call that was under way, which was refused so, and this refusal is reported: it, or Closed. It leaves open
--- whether a step accepted the call; or none does, in the history that the session has seen since or in any that goes on from it, and the
--- refusal is explained there
-pub record GivesUp (old : Connected) (came reported : Refusal) (new : Connected) : Type 0 where
+-- the session gave up its call that was under way with this pass, which was refused so, and this refusal is reported: it, or Closed. It
+-- leaves open whether a step accepted the call; or none does, in the history that the session has seen since or in any that goes on from
+-- it, and the refusal is explained there
+pub record GivesUp (old : Connected) (pass : ℕ) (came reported : Refusal) (new : Connected) : Type 0 where
   pub either : (reported ≡ came) ⊎ (reported ≡ Closed)
   pub kept : IsSome old.call → LeavesOpen came → reported ≡ came
-  pub untaken : LeavesOpen reported ⊎ ((call : CallId) × (old.call ≡ Some call) × IsGivenUp new.seen call reported)
+  pub untaken : LeavesOpen reported ⊎ ((call : CallId) × (old.call ≡ Some call) × IsGivenUp new.seen call pass reported)
   pub sees : SeesMore old new
 
--- the session finished its call that was under way, at this node, by its reply. An answer: in the history that the session has seen since,
--- the node accepted the call under the receipt's ticket and gave the answer, of which this is the receipt; or it is another call's. A
--- refusal: the session gave the call up
-abbrev pub Finishes : Connected → NodeName → Result Called Refusal → Result Called Refusal → Connected → Type 0
-Finishes old node (Ok reply) (Ok c) new =
+-- the session finished its call that was under way, at this node, by an answer: in the history that the session has seen since, the node
+-- accepted the call and gave the answer, as the receipt says; or it is another call's
+abbrev pub FinishesAnswered : Connected → NodeName → Called → Result Called Refusal → Connected → Type 0
+FinishesAnswered old node reply (Ok c) new =
     (c ≡ reply)
-    × ((call : CallId) × (old.call ≡ Some call) × HasAccepted new.seen node call c.call.ticket × HasReplied new.seen node c)
+    × ((call : CallId) × (old.call ≡ Some call) × HasAccepted new.seen node call c.call × HasReplied new.seen node c)
     × IsHistory new.seen × SeesMore old new
-Finishes old node (Ok reply) (Err e) new = (e ≡ Closed) × SeesMore old new
-Finishes old node (Err came) (Ok c) new = ⊥
-Finishes old node (Err came) (Err e) new = GivesUp old came e new
+FinishesAnswered old node reply (Err e) new = (e ≡ Closed) × SeesMore old new
+
+-- the session finished its call that was under way, at this node with this pass, by its reply: an answer, or a refusal, by which it gave
+-- the call up
+abbrev pub Finishes : Connected → NodeName → ℕ → Result Called Refusal → Result Called Refusal → Connected → Type 0
+Finishes old node pass (Ok reply) outcome new = FinishesAnswered old node reply outcome new
+Finishes old node pass (Err came) (Ok c) new = ⊥
+Finishes old node pass (Err came) (Err e) new = GivesUp old pass came e new
 
 -- the call of a request was finished
 abbrev pub FinishesCall : Connected → CallRequest → Result Called Refusal → Result Called Refusal → Connected → Type 0
-FinishesCall old q reply outcome new = Finishes old q.node reply outcome new
+FinishesCall old q reply outcome new = Finishes old q.node q.pass reply outcome new
 
 -- the session's next call, of this request at this node, is in the store's history, after all that the session had seen before, with the
 -- answer of this receipt in what it has seen since
@@ -113,51 +118,52 @@ pub record IsWitnessedReply (old : Connected) (message : ClientMessage) (reply :
 
 -- the connection made its next call, of this request at this node, after all that it had seen, and has seen that
 pub record HasMade (old : Connected) (node : NodeName) (ask : Ask) (new : Connected) : Type 0 where
-  pub mid : List Entry
+  pub mid : List HistoryEntry
   pub made : IsMade old.seen (next_call old) node ask mid
   pub later : IsPrefix mid new.seen
 
--- the call that was made of a request is refused so: it may have been taken; or no step accepts it, in the history that the session has
--- seen since or in any that goes on from it, and its node refused it by its rules or was not asked
-abbrev pub IsRefusedNext : Connected → NodeName → Ask → Refusal → Connected → Type 0
-IsRefusedNext old node ask e new =
-    (LeavesOpen e × HasMade old node ask new) ⊎ ((refused : IsRefusedCall old.client old.seen node ask e new.seen) × (refused.call ≡ next_call old))
+-- the call that was made of a request with this pass is refused so: it may have been taken; or no step accepts it, in the history that the
+-- session has seen since or in any that goes on from it, and its node refused it by its rules or was not asked
+abbrev pub IsRefusedNext : Connected → NodeName → Ask → ℕ → Refusal → Connected → Type 0
+IsRefusedNext old node ask pass e new =
+    (LeavesOpen e × HasMade old node ask new) ⊎ ((refused : IsRefusedCall old.client old.seen node ask pass e new.seen) × (refused.call ≡ next_call old))
 
--- a request of a connection is refused so: no call was made of it, and its session is as it was; or one was
-abbrev pub IsRefusedRequest : Connected → NodeName → Ask → Refusal → Connected → Type 0
-IsRefusedRequest old node ask e new = (RefusesFirst e × (new ≡ old)) ⊎ (CallsOnce old new × IsRefusedNext old node ask e new)
+-- a request of a connection with this pass is refused so: no call was made of it, and its session is as it was; or one was
+abbrev pub IsRefusedRequest : ℕ → Connected → NodeName → Ask → ℕ → Refusal → Connected → Type 0
+IsRefusedRequest most_leap old node ask pass e new = (RefusesFirst most_leap old pass e × (new ≡ old)) ⊎ (CallsOnce old new × IsRefusedNext old node ask pass e new)
 
 -- so is a message that is an update or a read; where a status is refused, its session is as it was
-abbrev pub IsRefusedMessage : Connected → ClientMessage → Refusal → Connected → Type 0
-IsRefusedMessage old (messages.Update node pass update) e new = IsRefusedRequest old (name_of node (asks.Update update)) (asks.Update update) e new
-IsRefusedMessage old (messages.Read node pass mode object) e new = IsRefusedRequest old (name_of node (asks.Read mode object)) (asks.Read mode object) e new
-IsRefusedMessage old messages.Status e new = new ≡ old
+abbrev pub IsRefusedMessage : ℕ → Connected → ClientMessage → Refusal → Connected → Type 0
+IsRefusedMessage most_leap old (messages.Update node pass update) e new = IsRefusedRequest most_leap old (name_of node (asks.Update update)) (asks.Update update) pass e new
+IsRefusedMessage most_leap old (messages.Read node pass mode object) e new = IsRefusedRequest most_leap old (name_of node (asks.Read mode object)) (asks.Read mode object) pass e new
+IsRefusedMessage most_leap old messages.Status e new = new ≡ old
 
 -- a turn of a connection: its session made one call for an update or a read that is answered, and the reply is witnessed; a refusal of
 -- one says whether a call was made, and whether it may have been taken; and after the reply to a status its session is as it was
-abbrev pub IsWitnessedTurn : Connected → ClientMessage → ClientReply → Connected → Type 0
-IsWitnessedTurn old message (replies.Update pass reply) new = CallsOnce old new × IsWitnessedReply old message (replies.Update pass reply) new
-IsWitnessedTurn old message (replies.Read pass version value) new = CallsOnce old new × IsWitnessedReply old message (replies.Read pass version value) new
-IsWitnessedTurn old message (replies.Refused e) new = IsRefusedMessage old message e new
-IsWitnessedTurn old message (replies.Status text) new = new ≡ old
+abbrev pub IsWitnessedTurn : ℕ → Connected → ClientMessage → ClientReply → Connected → Type 0
+IsWitnessedTurn most_leap old message (replies.Update pass reply) new = CallsOnce old new × IsWitnessedReply old message (replies.Update pass reply) new
+IsWitnessedTurn most_leap old message (replies.Read pass version value) new = CallsOnce old new × IsWitnessedReply old message (replies.Read pass version value) new
+IsWitnessedTurn most_leap old message (replies.Refused e) new = IsRefusedMessage most_leap old message e new
+IsWitnessedTurn most_leap old message (replies.Status text) new = new ≡ old
 
--- a new connection of an event loop reaches the state, at a server of this store
-abbrev pub IsReachableAt : Stored → ConnectionState Connected → Type 0
-IsReachableAt store state =
-    IsReachable IsNewSession (TellsStatus store) (λ node pass ask e. RefusesServed (length store.names) node ask e) (called_by (λ (token : Token). Submits) FinishesCall) FinishesCall state
+-- a new connection of an event loop reaches the state, at a server of this store with this bound on passes
+abbrev pub IsReachableAt : Stored → ℕ → ConnectionState Connected → Type 0
+IsReachableAt store most_leap state =
+    IsReachable IsNewSession (TellsStatus store) (λ node pass ask e. RefusesServed (length store.names) node ask e) (called_by (λ (token : Token). Submits most_leap) FinishesCall) FinishesCall state
 
 -- these turns are witnessed one after another, from the first session to the last
-abbrev pub AreWitnessed : Connected → History → Connected → Type 0
-AreWitnessed first [] last = last ≡ first
-AreWitnessed first (turn ∷ later) last = (mid : Connected) × IsWitnessedTurn first turn.0 turn.1 mid × AreWitnessed mid later last
+abbrev pub AreWitnessed : ℕ → Connected → Exchanges → Connected → Type 0
+AreWitnessed most_leap first [] last = last ≡ first
+AreWitnessed most_leap first (turn ∷ later) last =
+    (mid : Connected) × IsWitnessedTurn most_leap first turn.0 turn.1 mid × AreWitnessed most_leap mid later last
 
 -- the bytes `read` came and the bytes `written` went on the connection: with those that are unsent, these are the frames of the replies of
 -- its turns. The turns are witnessed. Since then its session made a call if one is under way, and is else as it was: so each of its
 -- other calls is in one turn
-pub record IsWitnessedConnection (first : Connected) (read written : List ℕ) (state : ConnectionState Connected) : Type 0 where
-  pub turns : History
+pub record IsWitnessedConnection (most_leap : ℕ) (first : Connected) (read written : List ℕ) (state : ConnectionState Connected) : Type 0 where
+  pub turns : Exchanges
   pub holds : Holds state.phase state.codec read written turns
   pub last : Connected
-  pub witnessed : AreWitnessed first turns last
+  pub witnessed : AreWitnessed most_leap first turns last
   pub waits : (q : CallRequest) → state.phase ≡ Waits q → MakesCall last q.node q.ask state.session
   pub rests : ((q : CallRequest) → state.phase ≢ Waits q) → state.session ≡ last

@@ -15,7 +15,7 @@ ghost use Rattle.craq_server.specs.Status.{TellsStatus};
 /// hands each that ended to the server so (`LoopBackend::ended`). So is the last state of a
 /// connection on a thread of its own (`serve_one`). It has no body: the contract is the law.
 pub(crate) fn connections_are_witnessed()
-    ensures { (store : Stored) (read written : List ℕ) (first state : ConnectionState Connected)
-        → Reaches (TellsStatus store) (λ node pass ask e. RefusesServed (length store.names) node ask e) (called_by (λ (token : Token). Submits) FinishesCall) FinishesCall first read written state
-        → IsWitnessedConnection first.session read written state }
+    ensures { (store : Stored) (most_leap : ℕ) (read written : List ℕ) (first state : ConnectionState Connected)
+        → Reaches (TellsStatus store) (λ node pass ask e. RefusesServed (length store.names) node ask e) (called_by (λ (token : Token). Submits most_leap) FinishesCall) FinishesCall first read written state
+        → IsWitnessedConnection most_leap first.session read written state }
 {}

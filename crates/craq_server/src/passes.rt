@@ -1,6 +1,7 @@
 //! `Passes`: the passes that a server takes, by the largest that it returned; shared by the request
 //! handlers of its connections.
-ghost use Rattle.std.specs.Prelude.{◌≡◌, ◌⊎◌, ◌+◌, ◌/◌, ◌<◌, ◌≤◌, ◌↔◌, ℕ, IsTrue};
+ghost use Rattle.std.specs.Prelude.{◌≡◌, ◌⊎◌, ◌+◌, ◌/◌, ◌<◌, ◌≤◌, ◌↔◌, ℕ, IsTrue, false};
+ghost use Rattle.craq_server.specs.Refusing.{Leaps};
 
 use craq_names::{Pass, Stamp};
 use std::sync::atomic::{AtomicU64, Ordering};
@@ -50,7 +51,8 @@ impl Passes {
     /// Returns whether the pass is taken, by the largest that is known to be returned (`is_taken`).
     /// One of at most `leap` always is, and each where `leap` is 0.
     pub(crate) fn takes(&self, pass: Pass) -> bool
-        ensures { (known : ℕ) × (IsTrue result ↔ ((self.now.leap ≡ 0) ⊎ (pass ≤ known + self.now.leap))) }
+        ensures taken { (known : ℕ) × (IsTrue result ↔ ((self.now.leap ≡ 0) ⊎ (pass ≤ known + self.now.leap))) }
+        ensures leaps { result ≡ false → Leaps self.now.leap pass }
     {
         let known = Stamp::new(self.known.load(Ordering::SeqCst));
         is_taken(Pass::of(known), self.leap, pass)

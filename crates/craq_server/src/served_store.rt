@@ -8,6 +8,7 @@ ghost use Rattle.craq_server.specs.Refusing.{RefusesServed};
 ghost use Rattle.craq_server.specs.Sessions.{Connected, Finishes, IsNewSession, IsReachableAt, IsWitnessedConnection, Submits};
 ghost use Rattle.craq_server.specs.Status.{TellsStatus};
 
+use crate::bulk_limit::BulkLimit;
 use crate::counters::Share;
 use crate::logging::Log;
 use crate::passes::Passes;
@@ -51,6 +52,7 @@ pub(crate) struct ServedStore<'a, R: Wait, C: Core + Named, G: Gate> {
     pub(crate) alloc: Global,
     pub(crate) store: &'a Store<C, G>,
     pub(crate) passes: &'a Passes,
+    pub(crate) bulk_limit: &'a BulkLimit,
     pub(crate) log: Log,
     /// The completions of the calls of this thread.
     pub(crate) completions: Arc<CompletionQueue<StoreOutcome<C>>>,
@@ -64,8 +66,10 @@ where
     C: Core + Named,
     G: Gate,
 {
-    /// Submits a call in the session. Refused, and no call is made, with `Exhausted` for the pass,
-    /// and as `Store::make_ask` is. A refusal of `Store::submit` is the call's reply.
+    /// Submits a call in the session. Refused, and no call is made, with `Exhausted` for the pass, if
+    /// the server bounds passes, and as `Store::make_ask` is. A refusal of `Store::submit` is the
+    /// call's reply.
+    #[tactic(auto, using(crate::proofs::Sessions::refused_by_make, crate::proofs::Sessions::refused_for_pass))]
     fn submit_call(
         &self,
         session: &mut StoreSession<C>,
@@ -74,7 +78,7 @@ where
     ) -> Result<Option<StoreOutcome<C>>, Refusal>
         ensures refused { IfErr result (λ e. RefusesServed (length self.now.store.now.names) request.now.node request.now.ask e) }
         ensures known { IfOk result (λ _. request.now.node.chain < length self.now.store.now.names) }
-        ensures submitted { Submits session.old request.now (at_once result) session.new }
+        ensures submitted { Submits self.now.passes.now.leap session.old request.now (at_once result) session.new }
     {
         if !self.passes.takes(request.pass) {
             return Err(Refusal::Exhausted);
@@ -105,10 +109,10 @@ where
         request: &CallRequest,
         reply: StoreOutcome<C>,
     ) -> Result<CallReceipt, Refusal>
-        ensures finished { Finishes session.old request.now.node reply result session.new }
+        ensures finished { Finishes session.old request.now.node request.now.pass reply result session.new }
         ensures refused { IfErr result (λ e. CanRefuse request.now.ask e) }
     {
-        match session.finish(self.store, &request.node, reply) {
+        match session.finish(self.store, &request.node, request.pass, reply) {
             Ok(receipt) => {
                 self.passes.tell(pass_after(receipt.pass(), &receipt));
                 Ok(receipt)
@@ -124,9 +128,9 @@ where
     /// (`craq_event_loop`).
     #[tactic(auto, using(crate::proofs::Reached::reachable_witnessed))]
     pub(crate) fn end_connection(&self, state: ConnectionState<StoreSession<C>>) -> Vec<CallReceipt>
-        requires { IsReachableAt self.now.store.now state }
+        requires { IsReachableAt self.now.store.now self.now.passes.now.leap state }
         ensures receipts { result.items ≡ kept state.calls.policy state.calls.receipts.items }
-        ensures witnessed { (first : Connected) × IsNewSession first × (read : List ℕ) × (written : List ℕ) × IsWitnessedConnection first read written state }
+        ensures witnessed { (first : Connected) × IsNewSession first × (read : List ℕ) × (written : List ℕ) × IsWitnessedConnection self.now.passes.now.leap first read written state }
     {
         state.into_receipts()
     }
@@ -166,7 +170,7 @@ where
 
     type Reply = StoreOutcome<C>;
 
-    ghost submits = { λ served token. Submits };
+    ghost submits = { λ served token. Submits served.passes.now.leap };
 
     ghost finishes = { λ served. FinishesCall };
 
@@ -202,6 +206,14 @@ where
     C: Core + Named,
     G: Gate,
 {
+    fn begin_bulk(&self) {
+        self.bulk_limit.begin(&self.rt);
+    }
+
+    fn end_bulk(&self) {
+        self.bulk_limit.end(&self.rt);
+    }
+
     fn wait(&self) -> StoreOutcome<C> {
         let Some(completion) = self.completions.wait(&self.rt) else {
             return Err(CallRefusal::without_call(Refusal::Closed));

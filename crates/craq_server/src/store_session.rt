@@ -1,11 +1,12 @@
 //! `StoreSession`: the session of a connection of a served store, with its call that is under way;
 //! for `served_store`.
-ghost use Rattle.std.specs.Prelude.{◌≡◌, ◌≤◌, ◌⊎◌, ◌↔◌, [], None, Some, Err, Ok, IfErr, IfOk, OnErr, length};
+ghost use Rattle.std.specs.Prelude.{◌≡◌, ◌≤◌, ◌⊎◌, ◌↔◌, [], None, Some, Err, IfErr, IfOk, OnErr, length};
 ghost use mathlib.Core.List.{IsPrefix};
-ghost use Rattle.craq_server.specs.Sessions.{Finishes, GivesUp, MakesCall};
+ghost use Rattle.craq_names.specs.Limits.{greatest};
+ghost use Rattle.craq_server.specs.Sessions.{Finishes, FinishesAnswered, GivesUp, MakesCall};
 
 use craq_model::Ask;
-use craq_names::{NodeName, Refusal};
+use craq_names::{NodeName, Pass, Refusal};
 use craq_node::Core;
 use craq_seat::CallReceipt;
 use craq_workers::{
@@ -55,7 +56,7 @@ impl<C: Core + Named> StoreSession<C> {
         ensures made { IfOk result (λ m. (m.name ≡ node.now) × (m.ask ≡ ask.now)) }
         ensures call { IfOk result (λ _. MakesCall self.old node.now ask.now self.new) }
         ensures unknown { (result ≡ Err Refusal.UnknownChain) ↔ (length store.now.names ≤ node.now.chain) }
-        ensures refused { IfErr result (λ e. (e ≡ Refusal.UnknownChain) ⊎ (e ≡ Refusal.Memory) ⊎ (e ≡ Refusal.Exhausted)) }
+        ensures refused { IfErr result (λ e. (e ≡ Refusal.UnknownChain) ⊎ (e ≡ Refusal.Memory) ⊎ ((e ≡ Refusal.Exhausted) × (self.old.made ≡ greatest))) }
         ensures same { OnErr result (self.new ≡ self.old) }
     {
         let (call, made) = store.make_ask(&mut self.session, node, ask)?;
@@ -63,34 +64,40 @@ impl<C: Core + Named> StoreSession<C> {
         Ok(made)
     }
 
-    /// Finishes the call that is under way, at a node of this name, by its reply. Returns the
-    /// receipt of an answer, or `Closed` if it is of another call, or if no call is under way. A
-    /// call that was refused is given up.
+    /// Finishes the call that is under way, at a node of this name with this pass, by its reply.
+    /// Returns the receipt of an answer, or `Closed` if it is of another call, or if no call is
+    /// under way. A call that was refused is given up.
     pub(crate) fn finish<G: Gate>(
         &mut self,
         store: &Store<C, G>,
         node: &NodeName,
+        pass: Pass,
         reply: Outcome<C>,
     ) -> Result<CallReceipt, Refusal>
-        ensures { Finishes self.old node.now reply result self.new }
+        ensures { Finishes self.old node.now pass reply result self.new }
     {
         match reply {
             Ok(answered) => self.finish_answered(store, node, answered),
-            Err(refusal) => Err(self.give_up(store, refusal)),
+            Err(refusal) => Err(self.give_up(store, refusal, pass)),
         }
     }
 
-    /// Gives up the call that is under way, which was refused so (`Store::give_up_ask`). Returns its
-    /// refusal, or `Closed` if no call is under way.
+    /// Gives up the call that is under way with this pass, which was refused so
+    /// (`Store::give_up_ask`). Returns its refusal, or `Closed` if no call is under way.
     #[tactic(auto, using(crate::proofs::Sessions::gives_up_made, crate::proofs::Sessions::gives_none_up))]
-    fn give_up<G: Gate>(&mut self, store: &Store<C, G>, refusal: CallRefusal<C>) -> Refusal
-        ensures { GivesUp self.old refusal result self.new }
+    fn give_up<G: Gate>(
+        &mut self,
+        store: &Store<C, G>,
+        refusal: CallRefusal<C>,
+        pass: Pass,
+    ) -> Refusal
+        ensures { GivesUp self.old pass refusal result self.new }
     {
         let Some(call) = self.call.take() else {
             drop(refusal);
             return Refusal::Closed;
         };
-        store.give_up_ask(&mut self.session, refusal, call)
+        store.give_up_ask(&mut self.session, refusal, call, pass)
     }
 
     /// Finishes the call that is under way, at a node of this name, by its answer.
@@ -101,7 +108,7 @@ impl<C: Core + Named> StoreSession<C> {
         node: &NodeName,
         answered: AnsweredCall<C>,
     ) -> Result<CallReceipt, Refusal>
-        ensures { Finishes self.old node.now (Ok answered) result self.new }
+        ensures { FinishesAnswered self.old node.now answered result self.new }
     {
         let Some(call) = self.call.take() else {
             drop(answered);

@@ -9,9 +9,9 @@ use Rattle.craq_frames.specs.Frame.{frame}
 use Rattle.craq_front.specs.declared.protocol_codec.Asking.{Asking}
 use Rattle.craq_front.specs.declared.protocol_codec.ProtocolCodec.{ProtocolCodec}
 use Rattle.craq_front.specs.declared.protocol_codec.Step.TheVariants.{Ask, Refused, Nothing}
-use Rattle.craq_front.specs.Serving.{Served, Session, idle, begun, neither}
+use Rattle.craq_front.specs.Serving.{Served, Conversation, idle, begun, neither}
 use Rattle.craq_front.specs.Steps.{Advances, Follows}
-use Rattle.craq_front.specs.Talk.{History, next_turn, UnderWay, Stands, between, within}
+use Rattle.craq_front.specs.Talk.{Exchanges, next_turn, UnderWay, Stands, between, within}
 use Rattle.craq_front.proofs.Answering.{cut_off}
 use Rattle.craq_front.proofs.Talks.{stands_asked, stands_received, stands_refused, stands_replied}
 use Rattle.craq_session.specs.declared.calls.DoorCalls.{DoorCalls}
@@ -27,36 +27,36 @@ more_unsent : (written old new unsent : List ℕ) → new ≡ old ++ unsent → 
 more_unsent written old new unsent e = append_assoc written old unsent ∙ ap (λ (x : List ℕ). written ++ x) (sym e)
 
 -- a message of the next frame is asked
-pub then_asked : (read written o n i j unsent : List ℕ) (a b : Option Asking) (m : ClientMessage) (turns : History)
+pub then_asked : (read written o n i j unsent : List ℕ) (a b : Option Asking) (m : ClientMessage) (turns : Exchanges)
     → n ≡ o ++ unsent → Advances i j unsent b (Ok (Ask m)) → Stands read (written ++ o) i a None turns → Stands read (written ++ n) j b (Some m) turns
 then_asked read written o n i j unsent a b m turns e h s = subst (λ (x : List ℕ). Stands read x j b (Some m) turns) (more_unsent written o n unsent e) (stands_asked read (written ++ o) i j unsent a b m turns s h)
 
 -- the next frame encodes nothing
-pub then_refused : (read written o n i j unsent : List ℕ) (a b : Option Asking) (turns : History)
+pub then_refused : (read written o n i j unsent : List ℕ) (a b : Option Asking) (turns : Exchanges)
     → n ≡ o ++ unsent → Advances i j unsent b (Ok Refused) → Stands read (written ++ o) i a None turns → Stands read (written ++ n) j b None turns
 then_refused read written o n i j unsent a b turns e h s = subst (λ (x : List ℕ). Stands read x j b None turns) (more_unsent written o n unsent e) (stands_refused read (written ++ o) i j unsent a b turns s h)
 
 -- where no message is asked, it does not matter of which payload one was
-no_matter : (read made i : List ℕ) (a b : Option Asking) (turns : History) → Stands read made i a None turns → Stands read made i b None turns
+no_matter : (read made i : List ℕ) (a b : Option Asking) (turns : Exchanges) → Stands read made i a None turns → Stands read made i b None turns
 no_matter read made i a b turns (between n s none) = between n s none
 no_matter read made i a b turns (within n payload earlier now few s u is) = absurd cc
 
 -- less than a frame is there
-pub then_nothing : (read written o n i j unsent : List ℕ) (a b : Option Asking) (turns : History)
+pub then_nothing : (read written o n i j unsent : List ℕ) (a b : Option Asking) (turns : Exchanges)
     → n ≡ o ++ unsent → Advances i j unsent b (Ok Nothing) → Stands read (written ++ o) i a None turns → Stands read (written ++ n) j b None turns
 then_nothing read written o n i j unsent a b turns e h s =
     let same : written ++ o ≡ written ++ n = sym (append-nil (written ++ o)) ∙ ap (λ (x : List ℕ). (written ++ o) ++ x) (sym h.2) ∙ more_unsent written o n unsent e in
     subst (λ (x : List ℕ). Stands read x j b None turns) same (subst (λ (x : List ℕ). Stands read (written ++ o) x b None turns) (sym h.1) (no_matter read (written ++ o) i a b turns s))
 
 -- a length above the limit stands in front
-pub then_too_long : (read written o n i j unsent : List ℕ) (a b : Option Asking) (turns : History)
-    → n ≡ o ++ unsent → Advances i j unsent b (Err refusals.FrameTooLong) → Stands read (written ++ o) i a None turns → Session next_turn [] read (written ++ n) turns neither (Err refusals.FrameTooLong)
+pub then_too_long : (read written o n i j unsent : List ℕ) (a b : Option Asking) (turns : Exchanges)
+    → n ≡ o ++ unsent → Advances i j unsent b (Err refusals.FrameTooLong) → Stands read (written ++ o) i a None turns → Conversation next_turn [] read (written ++ n) turns neither (Err refusals.FrameTooLong)
 then_too_long read written o n i j unsent a b turns e h (between k s none) = (i, k, written ++ o, unsent, s, h, sym (more_unsent written o n unsent e))
 then_too_long read written o n i j unsent a b turns e h (within k payload earlier now few s u is) = absurd cc
 
 -- out of memory, the next frame was not looked for
-pub then_ended : (read written o n i : List ℕ) (a : Option Asking) (turns : History)
-    → n ≡ o → Stands read (written ++ o) i a None turns → Session next_turn [] read (written ++ n) turns neither (Err refusals.Memory)
+pub then_ended : (read written o n i : List ℕ) (a : Option Asking) (turns : Exchanges)
+    → n ≡ o → Stands read (written ++ o) i a None turns → Conversation next_turn [] read (written ++ n) turns neither (Err refusals.Memory)
 then_ended read written o n i a turns e (between k s none) = (i, k, turns, subst (λ (x : List ℕ). Served next_turn [] read i (written ++ x) k turns) (sym e) s, idle refl)
 then_ended read written o n i a turns e (within k payload earlier now few s u is) = absurd cc
 
@@ -67,7 +67,7 @@ no_more_unsent o n i j unsent b refusals.Memory e h other = e ∙ ap (λ (x : Li
 no_more_unsent o n i j unsent b r e h other = absurd h
 
 -- a message has its reply
-pub then_replied : (read written o n i j unsent : List ℕ) (a b : Option Asking) (m : ClientMessage) (r : ClientReply) (next : Option ClientMessage) (turns : History)
+pub then_replied : (read written o n i j unsent : List ℕ) (a b : Option Asking) (m : ClientMessage) (r : ClientReply) (next : Option ClientMessage) (turns : Exchanges)
     → n ≡ o ++ unsent → j ≡ i → Follows a r unsent b (Ok next) → Stands read (written ++ o) i a (Some m) turns → Stands read (written ++ n) j b next (turns ++ (m, r) ∷ [])
 then_replied read written o n i j unsent a b m r next turns e same f s =
     subst (λ (x : List ℕ). Stands read (written ++ n) x b next (turns ++ (m, r) ∷ [])) (sym same)
@@ -81,8 +81,8 @@ none_unsent o n unsent None b r refusal e f = absurd f
 none_unsent o n unsent (Some asking) b r refusal e f = absurd f
 
 -- a message had its turn, and its reply is not encoded
-pub then_lost : (read written o n i unsent : List ℕ) (a b : Option Asking) (m : ClientMessage) (r : ClientReply) (refusal : Refusal) (turns : History)
-    → n ≡ o ++ unsent → Follows a r unsent b (Err refusal) → Stands read (written ++ o) i a (Some m) turns → Session next_turn [] read (written ++ n) (turns ++ (m, r) ∷ []) neither (Err refusals.Memory)
+pub then_lost : (read written o n i unsent : List ℕ) (a b : Option Asking) (m : ClientMessage) (r : ClientReply) (refusal : Refusal) (turns : Exchanges)
+    → n ≡ o ++ unsent → Follows a r unsent b (Err refusal) → Stands read (written ++ o) i a (Some m) turns → Conversation next_turn [] read (written ++ n) (turns ++ (m, r) ∷ []) neither (Err refusals.Memory)
 then_lost read written o n i unsent a b m r refusal turns e f (between k s none) = absurd cc
 then_lost read written o n i unsent a b m r refusal turns e f (within k payload earlier now few s u is) =
     let same : now ≡ m = cc in
@@ -96,7 +96,7 @@ then_lost read written o n i unsent a b m r refusal turns e f (within k payload 
     )
 
 -- more bytes came, and wait
-pub then_received : (read written o n i j more : List ℕ) (a b : Option Asking) (turns : History)
+pub then_received : (read written o n i j more : List ℕ) (a b : Option Asking) (turns : Exchanges)
     → n ≡ o → j ≡ i ++ more → Stands read (written ++ o) i a None turns → Stands (read ++ more) (written ++ n) j b None turns
 then_received read written o n i j more a b turns out input s =
     subst (λ (x : List ℕ). Stands (read ++ more) (written ++ x) j b None turns) (sym out)
@@ -104,14 +104,14 @@ then_received read written o n i j more a b turns out input s =
     (no_matter (read ++ more) (written ++ o) (i ++ more) a b turns (stands_received read (written ++ o) i more a None turns s)))
 
 -- more bytes came, and a message is asked
-pub then_heard : (read written o n i j more : List ℕ) (a b : Option Asking) (m : ClientMessage) (turns : History)
+pub then_heard : (read written o n i j more : List ℕ) (a b : Option Asking) (m : ClientMessage) (turns : Exchanges)
     → n ≡ o → Advances (i ++ more) j [] b (Ok (Ask m)) → Stands read (written ++ o) i a None turns → Stands (read ++ more) (written ++ n) j b (Some m) turns
 then_heard read written o n i j more a b m turns out h s =
     then_asked (read ++ more) written o n (i ++ more) j [] a b m turns (out ∙ sym (append-nil o)) h (stands_received read (written ++ o) i more a None turns s)
 
 -- bytes came that are lost
-pub then_deaf : (read written o n i more : List ℕ) (a : Option Asking) (turns : History)
-    → n ≡ o → Stands read (written ++ o) i a None turns → Session next_turn [] (read ++ more) (written ++ n) turns neither (Err refusals.Memory)
+pub then_deaf : (read written o n i more : List ℕ) (a : Option Asking) (turns : Exchanges)
+    → n ≡ o → Stands read (written ++ o) i a None turns → Conversation next_turn [] (read ++ more) (written ++ n) turns neither (Err refusals.Memory)
 then_deaf read written o n i more a turns out s = then_ended (read ++ more) written o n (i ++ more) a turns out (stands_received read (written ++ o) i more a None turns s)
 
 -- after a turn, and after a look for the next frame, no call is under way, so no room is needed

@@ -7,8 +7,8 @@ use Rattle.craq_frames.specs.declared.answer.ClientReply.{ClientReply}
 use Rattle.craq_frames.specs.Frame.{frame, payload_limit, IsPartial}
 use Rattle.craq_front.specs.declared.protocol_codec.Asking.{Asking}
 use Rattle.craq_front.specs.declared.protocol_codec.ProtocolCodec.{ProtocolCodec}
-use Rattle.craq_front.specs.Serving.{Session, RefusesLength, neither}
-use Rattle.craq_front.specs.Talk.{History, next_turn, Stands}
+use Rattle.craq_front.specs.Serving.{Conversation, RefusesLength, neither}
+use Rattle.craq_front.specs.Talk.{Exchanges, next_turn, Stands}
 use Rattle.craq_seat.specs.Calls.{Called}
 use Rattle.craq_session.specs.declared.calls.DoorCalls.{DoorCalls}
 use Rattle.craq_session.specs.declared.connection_state.Ending.{Ending}
@@ -28,23 +28,23 @@ refusal_for endings.TooLong = FrameTooLong
 refusal_for endings.Memory = Memory
 
 -- the bytes that were read and encoded, and the turns so far, in a phase; where it is over, they are as where `serve` ends so
-abbrev pub StandsIn : Phase → List ℕ → List ℕ → List ℕ → Option Asking → History → Type 0
-StandsIn (phases.Over why) read made input asking turns = Session next_turn [] read made turns neither (Err (refusal_for why))
+abbrev pub StandsIn : Phase → List ℕ → List ℕ → List ℕ → Option Asking → Exchanges → Type 0
+StandsIn (phases.Over why) read made input asking turns = Conversation next_turn [] read made turns neither (Err (refusal_for why))
 StandsIn phases.Idle read made input asking turns = Stands read made input asking None turns
 StandsIn (phases.Asks m) read made input asking turns = Stands read made input asking (Some m) turns
 StandsIn (phases.Waits q) read made input asking turns = Stands read made input asking (Some (asked_by q)) turns
 
 -- the bytes `read` came and those `written` went, and these were the turns: with those that are unsent, the bytes that went are
 -- the frames of the replies
-abbrev pub Holds : Phase → ProtocolCodec → List ℕ → List ℕ → History → Type 0
+abbrev pub Holds : Phase → ProtocolCodec → List ℕ → List ℕ → Exchanges → Type 0
 Holds phase codec read written turns = StandsIn phase read (written ++ codec.buffers.output.items) codec.buffers.input.items codec.asking turns
 
 -- no turn more, or one more, with this message and this reply
 abbrev pub HasNoMore : Phase → ProtocolCodec → Phase → ProtocolCodec → Type 0
-HasNoMore p t q u = (read written : List ℕ) (turns : History) → Holds p t read written turns → Holds q u read written turns
+HasNoMore p t q u = (read written : List ℕ) (turns : Exchanges) → Holds p t read written turns → Holds q u read written turns
 
 abbrev pub HasOneMore : Phase → ProtocolCodec → Phase → ProtocolCodec → ClientMessage → ClientReply → Type 0
-HasOneMore p t q u m r = (read written : List ℕ) (turns : History) → Holds p t read written turns → Holds q u read written (turns ++ (m, r) ∷ [])
+HasOneMore p t q u m r = (read written : List ℕ) (turns : Exchanges) → Holds p t read written turns → Holds q u read written (turns ++ (m, r) ∷ [])
 
 -- the number of unsent bytes from which on no more messages are asked before they are written
 abbrev pub most_unsent : ℕ

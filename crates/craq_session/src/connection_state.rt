@@ -77,7 +77,7 @@ impl<T> ConnectionState<T> {
     ghost use Rattle.std.specs.Prelude.{◌≤◌, ◌⊎◌, ◌↔◌, ℕ, List, [], ◌++◌, take, drop, length, IfSome, IsTrue, OnOk, OnErr};
     ghost use Rattle.std.specs.Option.{option_copied};
     ghost use Rattle.craq_frames.specs.declared.ask.ClientMessage.{ClientMessage};
-    ghost use Rattle.craq_front.specs.Talk.{History};
+    ghost use Rattle.craq_front.specs.Talk.{Exchanges};
     ghost use Rattle.craq_session.specs.Asking.{IsAsked, IsOutcome, IsReportable, called_by};
     ghost use Rattle.craq_session.specs.ConnectionStates.{AnswersCall, Holds, IsUnderWay, Took, ending_of};
 
@@ -121,7 +121,7 @@ impl<T> ConnectionState<T> {
     /// then, and it is over.
     pub fn receive(&mut self, alloc: Global, bytes: &[u8]) -> Result<(), AllocError>
         requires { self.old.phase ≡ Phase.Idle }
-        ensures holds { (read written : List ℕ) (turns : History)
+        ensures holds { (read written : List ℕ) (turns : Exchanges)
             → Holds self.old.phase self.old.codec read written turns → Holds self.new.phase self.new.codec (read ++ bytes.now) written turns }
         ensures ok { OnOk result ((self.new.phase ≡ Phase.Idle) ⊎ ((m : ClientMessage) × (self.new.phase ≡ Phase.Asks m))) }
         ensures err { OnErr result (self.new.phase ≡ Phase.Over Ending.Memory) }
@@ -152,7 +152,7 @@ impl<T> ConnectionState<T> {
     /// Drops the first `count` unsent bytes, which were written.
     pub fn wrote(&mut self, count: usize)
         requires { count ≤ length self.old.codec.buffers.output.items }
-        ensures holds { (read written : List ℕ) (turns : History)
+        ensures holds { (read written : List ℕ) (turns : Exchanges)
             → Holds self.old.phase self.old.codec read written turns
             → Holds self.new.phase self.new.codec read (written ++ take count self.old.codec.buffers.output.items) turns }
         ensures output { self.new.codec.buffers.output.items ≡ drop count self.old.codec.buffers.output.items }

@@ -6,25 +6,25 @@ use Rattle.craq_seat.specs.Merge.{MergedStep, book_line, node_line}
 use Rattle.craq_causality.specs.Authors.{lines_of}
 use Rattle.craq_ghost_history.specs.declared.author.Author.TheVariants.{Node, Client}
 use Rattle.craq_ghost_history.specs.Authors.{of, same}
-use Rattle.craq_store_history.specs.declared.entry.Entry.{Entry}
-use Rattle.craq_store_history.specs.declared.entry.Entry.TheVariants.{Opened, Called, AtNode, AtMaster, Withdrawn}
+use Rattle.craq_store_history.specs.declared.entry.HistoryEntry.{HistoryEntry}
+use Rattle.craq_store_history.specs.declared.entry.HistoryEntry.TheVariants.{ChainOpened, ClientCall, NodeStep, MasterStep, CallTakenBack}
 use Rattle.craq_store_history.specs.Entries.{author_of, first_some, line_in, lines_in, master_record, members_in, node_record, opened_by}
 
 -- ---- the lines
 
-pub lines_append : (c : ℕ) (xs ys : List Entry) → lines_in c (xs ++ ys) ≡ lines_in c xs ++ lines_in c ys
+pub lines_append : (c : ℕ) (xs ys : List HistoryEntry) → lines_in c (xs ++ ys) ≡ lines_in c xs ++ lines_in c ys
 unfolding lines_in
 lines_append c [] ys = refl
 lines_append c (x ∷ xs) ys = ap (λ z. line_in c x ++ z) (lines_append c xs ys) ∙ sym (append_assoc (line_in c x) (lines_in c xs) (lines_in c ys))
 
-lines_one : (c : ℕ) (e : Entry) → lines_in c (e ∷ []) ≡ line_in c e
+lines_one : (c : ℕ) (e : HistoryEntry) → lines_in c (e ∷ []) ≡ line_in c e
 unfolding lines_in
 lines_one c e = append-nil (line_in c e)
 
-pub lines_more : (c : ℕ) (log : List Entry) (e : Entry) → lines_in c (log ++ e ∷ []) ≡ lines_in c log ++ line_in c e
+pub lines_more : (c : ℕ) (log : List HistoryEntry) (e : HistoryEntry) → lines_in c (log ++ e ∷ []) ≡ lines_in c log ++ line_in c e
 lines_more c log e = lines_append c log (e ∷ []) ∙ ap (λ z. lines_in c log ++ z) (lines_one c e)
 
-pub lines_prefix : (c : ℕ) (xs ys : List Entry) → IsPrefix xs ys → IsPrefix (lines_in c xs) (lines_in c ys)
+pub lines_prefix : (c : ℕ) (xs ys : List HistoryEntry) → IsPrefix xs ys → IsPrefix (lines_in c xs) (lines_in c ys)
 lines_prefix c xs ys p = (lines_in c p.0, sym (lines_append c xs p.0) ∙ ap (lines_in c) p.1)
 
 -- ---- the first members
@@ -37,22 +37,22 @@ first_again : {A : Type 0} (o m n : Option A) → first_some o (first_some m n) 
 first_again None m n = refl
 first_again (Some x) m n = refl
 
-members_append : (c : ℕ) (xs ys : List Entry) → members_in c (xs ++ ys) ≡ first_some (members_in c xs) (members_in c ys)
+members_append : (c : ℕ) (xs ys : List HistoryEntry) → members_in c (xs ++ ys) ≡ first_some (members_in c xs) (members_in c ys)
 unfolding members_in
 members_append c [] ys = refl
 members_append c (x ∷ xs) ys = ap (first_some (opened_by c x)) (members_append c xs ys) ∙ first_again (opened_by c x) (members_in c xs) (members_in c ys)
 
-members_one : (c : ℕ) (e : Entry) → members_in c (e ∷ []) ≡ opened_by c e
+members_one : (c : ℕ) (e : HistoryEntry) → members_in c (e ∷ []) ≡ opened_by c e
 unfolding members_in
 members_one c e = first_none (opened_by c e)
 
-pub members_more : (c : ℕ) (log : List Entry) (e : Entry) → members_in c (log ++ e ∷ []) ≡ first_some (members_in c log) (opened_by c e)
+pub members_more : (c : ℕ) (log : List HistoryEntry) (e : HistoryEntry) → members_in c (log ++ e ∷ []) ≡ first_some (members_in c log) (opened_by c e)
 members_more c log e = members_append c log (e ∷ []) ∙ ap (first_some (members_in c log)) (members_one c e)
 
-pub members_quiet : (c : ℕ) (log : List Entry) (e : Entry) → opened_by c e ≡ None → members_in c (log ++ e ∷ []) ≡ members_in c log
+pub members_quiet : (c : ℕ) (log : List HistoryEntry) (e : HistoryEntry) → opened_by c e ≡ None → members_in c (log ++ e ∷ []) ≡ members_in c log
 members_quiet c log e h = members_more c log e ∙ (ap (first_some (members_in c log)) h ∙ first_none (members_in c log))
 
-pub members_prefix : (c : ℕ) (xs ys : List Entry) (members : List ℕ) → IsPrefix xs ys → members_in c xs ≡ Some members → members_in c ys ≡ Some members
+pub members_prefix : (c : ℕ) (xs ys : List HistoryEntry) (members : List ℕ) → IsPrefix xs ys → members_in c xs ≡ Some members → members_in c ys ≡ Some members
 members_prefix c xs ys members p h =
     subst (λ zs. members_in c zs ≡ Some members) p.1 (members_append c xs p.0 ∙ ap (λ o. first_some o (members_in c p.0)) h)
 
@@ -67,14 +67,14 @@ own_once false b id l h = refl
 own_once true true id l h = rw h refl
 own_once true false id l h = rw h refl
 
-line_own : (c id : ℕ) (e : Entry) → lines_of id (line_in c e) ≡ (if same (author_of e) (Node c id) then line_in c e else [])
-line_own c id (Opened chain members) = empty_both (same (Node chain 0) (Node c id))
-line_own c id (Called call name ask) = refl
-line_own c id (AtNode name stamp event pass step call) = own_once (name.chain == c) (name.node == id) id (node_line name.node (node_record stamp event pass step)) refl
-line_own c id (AtMaster chain stamp event pass step) = own_once (chain == c) (0 == id) id (book_line (master_record stamp event pass step)) refl
-line_own c id (Withdrawn call) = refl
+line_own : (c id : ℕ) (e : HistoryEntry) → lines_of id (line_in c e) ≡ (if same (author_of e) (Node c id) then line_in c e else [])
+line_own c id (ChainOpened chain members) = empty_both (same (Node chain 0) (Node c id))
+line_own c id (ClientCall call name ask) = refl
+line_own c id (NodeStep name stamp event pass step call) = own_once (name.chain == c) (name.node == id) id (node_line name.node (node_record stamp event pass step)) refl
+line_own c id (MasterStep chain stamp event pass step) = own_once (chain == c) (0 == id) id (book_line (master_record stamp event pass step)) refl
+line_own c id (CallTakenBack call) = refl
 
-join : (b : Bool) (c : ℕ) (e : Entry) (es : List Entry) → (if b then line_in c e else []) ++ lines_in c es ≡ lines_in c (if b then e ∷ es else es)
+join : (b : Bool) (c : ℕ) (e : HistoryEntry) (es : List HistoryEntry) → (if b then line_in c e else []) ++ lines_in c es ≡ lines_in c (if b then e ∷ es else es)
 unfolding lines_in
 join true c e es = refl
 join false c e es = refl
@@ -82,17 +82,17 @@ join false c e es = refl
 both : (xs ys us vs : List MergedStep) → xs ≡ us → ys ≡ vs → xs ++ ys ≡ us ++ vs
 both xs ys us vs e f = rw (e, f) refl
 
-own_lines : (c id : ℕ) (log : List Entry) → lines_of id (lines_in c log) ≡ lines_in c (of author_of (Node c id) log)
+own_lines : (c id : ℕ) (log : List HistoryEntry) → lines_of id (lines_in c log) ≡ lines_in c (of author_of (Node c id) log)
 unfolding lines_in
 own_lines c id [] = refl
 own_lines c id (e ∷ es) =
-    let mine : List Entry = of author_of (Node c id) es in
+    let mine : List HistoryEntry = of author_of (Node c id) es in
     let b : Bool = same (author_of e) (Node c id) in
     filter-append (λ (l : MergedStep). l.node == id) (line_in c e) (lines_in c es)
     ∙ (both (lines_of id (line_in c e)) (lines_of id (lines_in c es)) (if b then line_in c e else []) (lines_in c mine) (line_own c id e) (own_lines c id es)
     ∙ join b c e mine)
 
-pub own_same : (c id : ℕ) (xs ys : List Entry) → of author_of (Node c id) xs ≡ of author_of (Node c id) ys → lines_of id (lines_in c xs) ≡ lines_of id (lines_in c ys)
+pub own_same : (c id : ℕ) (xs ys : List HistoryEntry) → of author_of (Node c id) xs ≡ of author_of (Node c id) ys → lines_of id (lines_in c xs) ≡ lines_of id (lines_in c ys)
 own_same c id xs ys h = own_lines c id xs ∙ (ap (lines_in c) h ∙ sym (own_lines c id ys))
 
 -- ---- a chain whose master added nothing is not opened
@@ -101,17 +101,17 @@ tail_nil : {X : Type 0} (b : Bool) (x : X) (xs : List X) → (if b then x ∷ xs
 tail_nil true x xs h = absurd cc
 tail_nil false x xs h = h
 
-opened_here : (b : Bool) (e : Entry) (members : List ℕ) (o : Option (List ℕ)) (es : List Entry) → (if b && true then e ∷ es else es) ≡ [] → (es ≡ [] → o ≡ None) → first_some (if b then Some members else None) o ≡ None
+opened_here : (b : Bool) (e : HistoryEntry) (members : List ℕ) (o : Option (List ℕ)) (es : List HistoryEntry) → (if b && true then e ∷ es else es) ≡ [] → (es ≡ [] → o ≡ None) → first_some (if b then Some members else None) o ≡ None
 opened_here true e members o es h f = absurd cc
 opened_here false e members o es h f = f h
 
-pub not_opened : (c : ℕ) (log : List Entry) → of author_of (Node c 0) log ≡ [] → members_in c log ≡ None
+pub not_opened : (c : ℕ) (log : List HistoryEntry) → of author_of (Node c 0) log ≡ [] → members_in c log ≡ None
 unfolding members_in
 not_opened c [] h = refl
-not_opened c (Opened chain members ∷ es) h = opened_here (chain == c) (Opened chain members) members.value (members_in c es) (of author_of (Node c 0) es) h (not_opened c es)
-not_opened c (Called call name ask ∷ es) h = not_opened c es h
-not_opened c (AtNode name stamp event pass step call ∷ es) h =
-    not_opened c es (tail_nil (same (Node name.chain name.node) (Node c 0)) (AtNode name stamp event pass step call) (of author_of (Node c 0) es) h)
-not_opened c (AtMaster chain stamp event pass step ∷ es) h =
-    not_opened c es (tail_nil (same (Node chain 0) (Node c 0)) (AtMaster chain stamp event pass step) (of author_of (Node c 0) es) h)
-not_opened c (Withdrawn call ∷ es) h = not_opened c es h
+not_opened c (ChainOpened chain members ∷ es) h = opened_here (chain == c) (ChainOpened chain members) members.value (members_in c es) (of author_of (Node c 0) es) h (not_opened c es)
+not_opened c (ClientCall call name ask ∷ es) h = not_opened c es h
+not_opened c (NodeStep name stamp event pass step call ∷ es) h =
+    not_opened c es (tail_nil (same (Node name.chain name.node) (Node c 0)) (NodeStep name stamp event pass step call) (of author_of (Node c 0) es) h)
+not_opened c (MasterStep chain stamp event pass step ∷ es) h =
+    not_opened c es (tail_nil (same (Node chain 0) (Node c 0)) (MasterStep chain stamp event pass step) (of author_of (Node c 0) es) h)
+not_opened c (CallTakenBack call ∷ es) h = not_opened c es h

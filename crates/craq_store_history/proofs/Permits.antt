@@ -12,8 +12,8 @@ use Rattle.craq_ghost_history.specs.Authors.{is_use, uses}
 use Rattle.craq_ghost_history.specs.Histories.{IsUnused}
 use Rattle.craq_ghost_history.proofs.Authors.{permit_eq, permit_is, uses_other}
 use Rattle.craq_store_history.specs.declared.entry.CallId.{CallId}
-use Rattle.craq_store_history.specs.declared.entry.Entry.{Entry}
-use Rattle.craq_store_history.specs.declared.entry.Entry.TheVariants.{AtNode, Withdrawn}
+use Rattle.craq_store_history.specs.declared.entry.HistoryEntry.{HistoryEntry}
+use Rattle.craq_store_history.specs.declared.entry.HistoryEntry.TheVariants.{NodeStep, CallTakenBack}
 use Rattle.craq_store_history.specs.Chains.{IsHistory}
 use Rattle.craq_store_history.specs.Entries.{permit_for, permit_of}
 
@@ -22,7 +22,7 @@ use_is None p u = absurd (true≢false (sym u))
 use_is (Some q) p u = ap Some (permit_is q p u)
 
 -- an entry whose permit is unused keeps that each is used once
-pub once_more : (log : List Entry) (e : Entry) → ((p : Permit) → length (uses permit_of p log) ≤ 1) → IsUnused permit_of log e → (p : Permit) → length (uses permit_of p (log ++ e ∷ [])) ≤ 1
+pub once_more : (log : List HistoryEntry) (e : HistoryEntry) → ((p : Permit) → length (uses permit_of p log) ≤ 1) → IsUnused permit_of log e → (p : Permit) → length (uses permit_of p (log ++ e ∷ [])) ≤ 1
 once_more log e h free p = by_use (is_use (permit_of e) p) refl
   where
     by_use : (b : Bool) → is_use (permit_of e) p ≡ b → length (uses permit_of p (log ++ e ∷ [])) ≤ 1
@@ -35,20 +35,20 @@ once_more log e h free p = by_use (is_use (permit_of e) p) refl
 
 -- ---- the one use of a permit
 
-here : (b : Bool) (y x : Entry) (rest : List Entry) → b ≡ true → y ≡ x → IsIn (if b then y ∷ rest else rest) x
+here : (b : Bool) (y x : HistoryEntry) (rest : List HistoryEntry) → b ≡ true → y ≡ x → IsIn (if b then y ∷ rest else rest) x
 here true y x rest t e = inl e
 here false y x rest t e = absurd (true≢false (sym t))
 
-there : (b : Bool) (y x : Entry) (rest : List Entry) → IsIn rest x → IsIn (if b then y ∷ rest else rest) x
+there : (b : Bool) (y x : HistoryEntry) (rest : List HistoryEntry) → IsIn rest x → IsIn (if b then y ∷ rest else rest) x
 there true y x rest i = inr i
 there false y x rest i = i
 
-in_uses : (p : Permit) (log : List Entry) (x : Entry) → IsIn log x → is_use (permit_of x) p ≡ true → IsIn (uses permit_of p log) x
+in_uses : (p : Permit) (log : List HistoryEntry) (x : HistoryEntry) → IsIn log x → is_use (permit_of x) p ≡ true → IsIn (uses permit_of p log) x
 in_uses p [] x i u = absurd i
-in_uses p (y ∷ ys) x (inl e) u = here (is_use (permit_of y) p) y x (uses permit_of p ys) (subst (λ (z : Entry). is_use (permit_of z) p ≡ true) (sym e) u) e
+in_uses p (y ∷ ys) x (inl e) u = here (is_use (permit_of y) p) y x (uses permit_of p ys) (subst (λ (z : HistoryEntry). is_use (permit_of z) p ≡ true) (sym e) u) e
 in_uses p (y ∷ ys) x (inr i) u = there (is_use (permit_of y) p) y x (uses permit_of p ys) (in_uses p ys x i u)
 
-alone : (l : List Entry) (x y : Entry) → length l ≤ 1 → IsIn l x → IsIn l y → x ≡ y
+alone : (l : List HistoryEntry) (x y : HistoryEntry) → length l ≤ 1 → IsIn l x → IsIn l y → x ≡ y
 alone [] x y few i j = absurd i
 alone (z ∷ []) x y few (inl e) (inl f) = sym e ∙ f
 alone (z ∷ []) x y few (inl e) (inr j) = absurd j
@@ -56,20 +56,20 @@ alone (z ∷ []) x y few (inr i) j = absurd i
 alone (z ∷ w ∷ l) x y few i j = absurd (omega (arith, few))
 
 -- two entries that use one permit are one
-one_use : (log : List Entry) (call : CallId) (x y : Entry) → IsHistory log → permit_of x ≡ Some (permit_for call) → permit_of y ≡ Some (permit_for call) → Contains log x → Contains log y → x ≡ y
+one_use : (log : List HistoryEntry) (call : CallId) (x y : HistoryEntry) → IsHistory log → permit_of x ≡ Some (permit_for call) → permit_of y ≡ Some (permit_for call) → Contains log x → Contains log y → x ≡ y
 one_use log call x y h xs ys i j =
     let p : Permit = permit_for call in
-    let used = λ (z : Entry) (is : permit_of z ≡ Some p). subst (λ (o : Option Permit). is_use o p ≡ true) (sym is) (permit_eq p p refl) in
+    let used = λ (z : HistoryEntry) (is : permit_of z ≡ Some p). subst (λ (o : Option Permit). is_use o p ≡ true) (sym is) (permit_eq p p refl) in
     alone (uses permit_of p log) x y (h.once p) (in_uses p log x (from_contains log x i) (used x xs)) (in_uses p log y (from_contains log y j) (used y ys))
 
-pub accepted_once : (log : List Entry) (name at : NodeName) (stamp its_stamp : ℕ) (event its_event : Snapshot Event) (pass its_pass : ℕ) (step its_step : Snapshot Step) (call : CallId) → IsHistory log
-    → Contains log (AtNode name stamp event pass step (Some call)) → Contains log (AtNode at its_stamp its_event its_pass its_step (Some call)) → (name ≡ at) × (stamp ≡ its_stamp)
+pub accepted_once : (log : List HistoryEntry) (name at : NodeName) (stamp its_stamp : ℕ) (event its_event : Snapshot Event) (pass its_pass : ℕ) (step its_step : Snapshot Step) (call : CallId) → IsHistory log
+    → Contains log (NodeStep name stamp event pass step (Some call)) → Contains log (NodeStep at its_stamp its_event its_pass its_step (Some call)) → (name ≡ at) × (stamp ≡ its_stamp)
 accepted_once log name at stamp its_stamp event its_event pass its_pass step its_step call h i j =
-    let same : AtNode name stamp event pass step (Some call) ≡ AtNode at its_stamp its_event its_pass its_step (Some call) =
-    one_use log call (AtNode name stamp event pass step (Some call)) (AtNode at its_stamp its_event its_pass its_step (Some call)) h refl refl i j in
+    let same : NodeStep name stamp event pass step (Some call) ≡ NodeStep at its_stamp its_event its_pass its_step (Some call) =
+    one_use log call (NodeStep name stamp event pass step (Some call)) (NodeStep at its_stamp its_event its_pass its_step (Some call)) h refl refl i j in
     (cc, cc)
 
-pub withdrawn_never : (log : List Entry) (name : NodeName) (stamp : ℕ) (event : Snapshot Event) (pass : ℕ) (step : Snapshot Step) (call : CallId) → IsHistory log
-    → Contains log (Withdrawn call) → ¬ (Contains log (AtNode name stamp event pass step (Some call)))
+pub withdrawn_never : (log : List HistoryEntry) (name : NodeName) (stamp : ℕ) (event : Snapshot Event) (pass : ℕ) (step : Snapshot Step) (call : CallId) → IsHistory log
+    → Contains log (CallTakenBack call) → ¬ (Contains log (NodeStep name stamp event pass step (Some call)))
 withdrawn_never log name stamp event pass step call h i j =
-    let same : Withdrawn call ≡ AtNode name stamp event pass step (Some call) = one_use log call (Withdrawn call) (AtNode name stamp event pass step (Some call)) h refl refl i j in cc
+    let same : CallTakenBack call ≡ NodeStep name stamp event pass step (Some call) = one_use log call (CallTakenBack call) (NodeStep name stamp event pass step (Some call)) h refl refl i j in cc

@@ -16,12 +16,12 @@ use Rattle.craq_causality.specs.Causal.{HasJoined, IsOfSent, IsOfStopped, IsOfTy
 use Rattle.craq_ghost_history.specs.declared.author.Author.TheVariants.{Node}
 use Rattle.craq_ghost_history.specs.Authors.{of}
 use Rattle.craq_store_history.specs.declared.entry.CallId.{CallId}
-use Rattle.craq_store_history.specs.declared.entry.Entry.{Entry}
+use Rattle.craq_store_history.specs.declared.entry.HistoryEntry.{HistoryEntry}
 use Rattle.craq_store_history.specs.Entries.{author_of, lines_in, members_in}
 use Rattle.craq_store_history.specs.Chains.{Accepts, IsBelow}
 
 -- this node has seen that its chain was opened and that it has joined it, and its own steps replay to `node` and `stamp`
-pub record IsNodeAt (name : NodeName) (seen : List Entry) (node : Plain) (stamp : ℕ) : Type 0 where
+pub record IsNodeAt (name : NodeName) (seen : List HistoryEntry) (node : Plain) (stamp : ℕ) : Type 0 where
   pub members : List ℕ
   pub opened : members_in name.chain seen ≡ Some members
   pub member : name.node ≢ 0
@@ -29,14 +29,14 @@ pub record IsNodeAt (name : NodeName) (seen : List Entry) (node : Plain) (stamp 
   pub after : IsNodeAfter name.chain members name.node (lines_in name.chain seen) node stamp
 
 -- the master of a chain has seen that its chain was opened, and its own steps replay to `master` and `stamp`
-pub record IsMasterAt (chain : ℕ) (seen : List Entry) (master : Mastered) (stamp : ℕ) : Type 0 where
+pub record IsMasterAt (chain : ℕ) (seen : List HistoryEntry) (master : Mastered) (stamp : ℕ) : Type 0 where
   pub members : List ℕ
   pub opened : members_in chain seen ≡ Some members
   pub after : IsMasterAfter chain members (lines_in chain seen) master stamp
 
 -- the node takes this step: the next of the node that its own steps lead to, of a message that was sent by the prefix that it learned,
 -- or of a call that was made
-pub record MayStep (name : NodeName) (seen reported : List Entry) (r : Record Event) (call : Option CallId) (next : Plain) : Type 0 where
+pub record MayStep (name : NodeName) (seen reported : List HistoryEntry) (r : Record Event) (call : Option CallId) (next : Plain) : Type 0 where
   pub node : Plain
   pub stamp : ℕ
   pub at : IsNodeAt name seen node stamp
@@ -47,7 +47,7 @@ pub record MayStep (name : NodeName) (seen reported : List Entry) (r : Record Ev
   pub called : Accepts reported name r.event call
 
 -- the master takes this step: a removal comes after the stop that it names
-pub record MayOrder (chain : ℕ) (seen reported : List Entry) (r : Record BookEvent) (next : Mastered) : Type 0 where
+pub record MayOrder (chain : ℕ) (seen reported : List HistoryEntry) (r : Record BookEvent) (next : Mastered) : Type 0 where
   pub master : Mastered
   pub stamp : ℕ
   pub at : IsMasterAt chain seen master stamp
@@ -56,10 +56,10 @@ pub record MayOrder (chain : ℕ) (seen reported : List Entry) (r : Record BookE
   pub stopped : IsOfStopped (lines_in chain reported) r.event
 
 -- a chain is opened once, by its master, with members that may be a membership
-pub record MayOpen (chain : ℕ) (seen : List Entry) (members : List ℕ) : Type 0 where
+pub record MayOpen (chain : ℕ) (seen : List HistoryEntry) (members : List ℕ) : Type 0 where
   pub first : of author_of (Node chain 0) seen ≡ []
   pub membership : IsMembership members
 
 -- a client's call has a number above those of its calls before
-abbrev pub MayMake : List Entry → CallId → Type 0
+abbrev pub MayMake : List HistoryEntry → CallId → Type 0
 MayMake seen call = AllByRecursion (IsBelow call) seen

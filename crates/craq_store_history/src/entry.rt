@@ -1,4 +1,4 @@
-//! `Entry`: an event of a store, as its history has it. It exists in the proofs alone, except ids
+//! `HistoryEntry`: an event of a store, as its history has it. It exists in the proofs alone, except ids
 //! and numbers.
 use craq_model::{Ask, Event, Step};
 use craq_names::{ChainId, Items, NodeId, NodeName, Pass, Stamp};
@@ -14,20 +14,20 @@ pub struct CallId {
 
 /// Something that happens in a store.
 #[derive(Drop)]
-pub enum Entry {
+pub enum HistoryEntry {
     /// A chain is opened with these first members. Its master adds the entry.
-    Opened {
+    ChainOpened {
         chain: ChainId,
         members: Snapshot<Items<NodeId>>,
     },
     /// A client asks a node.
-    Called {
+    ClientCall {
         call: CallId,
         name: NodeName,
         ask: Snapshot<Ask>,
     },
     /// A node takes a step; it accepts the call, if there is one.
-    AtNode {
+    NodeStep {
         name: NodeName,
         stamp: Stamp,
         event: Snapshot<Event>,
@@ -36,7 +36,7 @@ pub enum Entry {
         call: Option<CallId>,
     },
     /// The master of a chain takes a step.
-    AtMaster {
+    MasterStep {
         chain: ChainId,
         stamp: Stamp,
         event: BookEvent,
@@ -44,7 +44,7 @@ pub enum Entry {
         step: Snapshot<Step>,
     },
     /// A client takes a call back: no step has accepted it, and none will.
-    Withdrawn {
+    CallTakenBack {
         call: CallId,
     },
 }

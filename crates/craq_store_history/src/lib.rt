@@ -6,7 +6,7 @@ mod entry;
 mod laws;
 mod rule;
 
-pub use entry::{CallId, Entry};
+pub use entry::{CallId, HistoryEntry};
 pub use laws::{
     accepted_calls_follow, authors_are_replayed, authors_keep_the_rule, calls_are_accepted_once,
     each_chain_is_a_run,

@@ -1,5 +1,5 @@
 //! `StoreRule`: the rule of a store's history.
-use crate::entry::Entry;
+use crate::entry::HistoryEntry;
 use craq_ghost_history::HistoryRule;
 
 /// The rule of a store's history: the lines of each chain are in causal order, each author's are a
@@ -7,7 +7,7 @@ use craq_ghost_history::HistoryRule;
 /// call, and none if the client takes the call back: either uses the call's permit up.
 pub struct StoreRule;
 
-impl HistoryRule<Entry> for StoreRule {
+impl HistoryRule<HistoryEntry> for StoreRule {
     ghost use Rattle.craq_store_history.specs.Chains.{IsHistory};
     ghost use Rattle.craq_store_history.specs.Entries.{author_of, permit_of};
 

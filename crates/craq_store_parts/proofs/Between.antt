@@ -10,7 +10,7 @@ use Rattle.craq_seat.specs.declared.journal.Record.{Record}
 use Rattle.craq_seat.specs.Cells.{Celled}
 use Rattle.craq_seat.specs.Merge.{MergedStep, book_line, node_line}
 use Rattle.craq_causality.specs.Authors.{lines_of}
-use Rattle.craq_store_history.specs.declared.entry.Entry.{Entry}
+use Rattle.craq_store_history.specs.declared.entry.HistoryEntry.{HistoryEntry}
 use Rattle.craq_store_history.specs.Entries.{lines_in}
 use Rattle.craq_store_history.proofs.Lines.{lines_prefix}
 use Rattle.craq_store_parts.specs.Recorded.{AreLinesOf, AreMasterLines, BookHadLinesIn, BookHasLinesIn, HadLinesIn, HasLinesIn}
@@ -40,12 +40,12 @@ master_lines_between : (xs ys zs : List MergedStep) (journal : Option (List (Rec
 master_lines_between xs ys zs None p q first last = tt
 master_lines_between xs ys zs (Some rs) p q first last = between 0 xs ys zs (map book_line rs) p q first last
 
-pub lines_seen : {C : Type 0} (log later : List Entry) (cell : Celled C Event) → HadLinesIn log cell → IsPrefix log later → HasLinesIn later cell → HasLinesIn log cell
+pub lines_seen : {C : Type 0} (log later : List HistoryEntry) (cell : Celled C Event) → HadLinesIn log cell → IsPrefix log later → HasLinesIn later cell → HasLinesIn log cell
 lines_seen log later cell (before, p, first) q last =
     let c : ℕ = cell.opening.name.chain in
     lines_between cell.opening.name.node (lines_in c before) (lines_in c log) (lines_in c later) cell.journal (lines_prefix c before log p) (lines_prefix c log later q) first last
 
-pub master_lines_seen : (log later : List Entry) (book : Celled Mastered BookEvent) → BookHadLinesIn log book → IsPrefix log later → BookHasLinesIn later book → BookHasLinesIn log book
+pub master_lines_seen : (log later : List HistoryEntry) (book : Celled Mastered BookEvent) → BookHadLinesIn log book → IsPrefix log later → BookHasLinesIn later book → BookHasLinesIn log book
 master_lines_seen log later book (before, p, first) q last =
     let c : ℕ = book.opening.name.chain in
     master_lines_between (lines_in c before) (lines_in c log) (lines_in c later) book.journal (lines_prefix c before log p) (lines_prefix c log later q) first last

@@ -16,7 +16,7 @@ use Rattle.craq_causality.specs.Authors.{IsMasterAfter, first_of, lines_of}
 use Rattle.craq_causality.specs.Causal.{AreCausal, HasJoined}
 use Rattle.craq_causality.proofs.Orders.{IsIn, from_contains, of_map, to_at}
 use Rattle.craq_merge.proofs.Used.{joins_new}
-use Rattle.craq_store_history.specs.declared.entry.Entry.{Entry}
+use Rattle.craq_store_history.specs.declared.entry.HistoryEntry.{HistoryEntry}
 use Rattle.craq_store_history.specs.Chains.{ChainHolds, IsHistory}
 use Rattle.craq_store_history.specs.Entries.{lines_in, master_record, members_in}
 use Rattle.craq_store_parts.specs.Recorded.{CanBegin, HasLetJoin, HasOrdered, IsUnjoined}
@@ -24,7 +24,7 @@ use Rattle.craq_store_parts.specs.Witnessed.{IsWitnessedOrder}
 use Rattle.craq_store_parts.proofs.Beginning.{line_standing}
 
 -- a master's step that stands in a history
-pub has_ordered : (old log : List Entry) (c : ℕ) (event : BookEvent) (receipt : Receipt) → IsWitnessedOrder old c event receipt log → HasOrdered log c event
+pub has_ordered : (old log : List HistoryEntry) (c : ℕ) (event : BookEvent) (receipt : Receipt) → IsWitnessedOrder old c event receipt log → HasOrdered log c event
 has_ordered old log c event receipt w =
     (master_record receipt.stamp event w.pass w.step, line_standing w.taken.0 log c receipt.stamp event w.pass w.step w.taken.2, refl)
 
@@ -48,7 +48,7 @@ is_new chain members lines r id causal there is =
 first_new : (chain : ℕ) (members : List ℕ) (id : ℕ) → is_member members id ≡ false → first_of chain members id ≡ opening_joined (record { chain = chain; node = id })
 first_new chain members id new = rw new refl
 
-module _ {C : Type 0} (represents : C → Plain → Type 0) (name : NodeName) (log : List Entry) (cell : Celled C Event) (h : IsHistory log) (j : HasLetJoin log name) (u : IsUnjoined represents name cell) where
+module _ {C : Type 0} (represents : C → Plain → Type 0) (name : NodeName) (log : List HistoryEntry) (cell : Celled C Event) (h : IsHistory log) (j : HasLetJoin log name) (u : IsUnjoined represents name cell) where
   in_some : (members : List ℕ) → members_in name.chain log ≡ Some members → AreCausal name.chain members (lines_in name.chain log) → CanBegin represents log cell
   in_some members opened causal =
       let new : is_member members name.node ≡ false = is_new name.chain members (lines_in name.chain log) j.0 name.node causal j.1 j.2 in

@@ -36,8 +36,8 @@ use Rattle.craq_causality.proofs.Orders.{IsIn, from_contains, in_left, in_right,
 use Rattle.craq_ghost_history.specs.declared.author.Author.TheVariants.{Node}
 use Rattle.craq_ghost_history.specs.Histories.{IsAdded, MayAdd, Written}
 use Rattle.craq_store_history.specs.declared.entry.CallId.{CallId}
-use Rattle.craq_store_history.specs.declared.entry.Entry.{Entry}
-use Rattle.craq_store_history.specs.declared.entry.Entry.TheVariants.{AtNode}
+use Rattle.craq_store_history.specs.declared.entry.HistoryEntry.{HistoryEntry}
+use Rattle.craq_store_history.specs.declared.entry.HistoryEntry.TheVariants.{NodeStep}
 use Rattle.craq_store_history.specs.Chains.{IsHistory}
 use Rattle.craq_store_history.specs.Entries.{author_of, line_in, lines_in, node_record, permit_of}
 use Rattle.craq_store_history.specs.Steps.{MayStep}
@@ -116,7 +116,7 @@ stays represents old new p event pass e (n, is, stands) =
       journal = ap (λ (c : Celled Plain Event). c.journal) is.1;
     }
 
-pub still_recorded : {C : Type 0} (represents : C → Plain → Type 0) (old new : Desked C) (w : Written Entry) (r : IsRecorded represents old w) → Stays represents old.cell new.cell r.node → IsRecorded represents new w
+pub still_recorded : {C : Type 0} (represents : C → Plain → Type 0) (old new : Desked C) (w : Written HistoryEntry) (r : IsRecorded represents old w) → Stays represents old.cell new.cell r.node → IsRecorded represents new w
 still_recorded represents old new w r s =
     record {
       author = rw s.opening r.author;
@@ -130,34 +130,34 @@ still_recorded represents old new w r s =
 
 -- ---- the step in the history
 
-pub in_later : (xs ys : List Entry) (x : Entry) → IsPrefix xs ys → Contains xs x → Contains ys x
-in_later xs ys x p there = subst (λ (zs : List Entry). Contains zs x) p.1 (to_contains (xs ++ p.0) x (in_left xs p.0 x (from_contains xs x there)))
+pub in_later : (xs ys : List HistoryEntry) (x : HistoryEntry) → IsPrefix xs ys → Contains xs x → Contains ys x
+in_later xs ys x p there = subst (λ (zs : List HistoryEntry). Contains zs x) p.1 (to_contains (xs ++ p.0) x (in_left xs p.0 x (from_contains xs x there)))
 
-in_last : (xs : List Entry) (e : Entry) → Contains (xs ++ e ∷ []) e
+in_last : (xs : List HistoryEntry) (e : HistoryEntry) → Contains (xs ++ e ∷ []) e
 in_last xs e = to_contains (xs ++ e ∷ []) e (in_right xs (e ∷ []) e (inl refl))
 
 -- it stands after all that the author had learned
-pub stands_last : (seen reported new : List Entry) (e : Entry) → IsAdded author_of seen reported e new → StandsAfter reported new e
+pub stands_last : (seen reported new : List HistoryEntry) (e : HistoryEntry) → IsAdded author_of seen reported e new → StandsAfter reported new e
 stands_last seen reported new e a = (a.before, a.heard, ([], append-nil (a.before ++ e ∷ []) ∙ sym a.now))
 
-pub stands_in : (old log : List Entry) (e : Entry) → StandsAfter old log e → Contains log e
+pub stands_in : (old log : List HistoryEntry) (e : HistoryEntry) → StandsAfter old log e → Contains log e
 stands_in old log e s = in_later (s.0 ++ e ∷ []) log e s.2 (in_last s.0 e)
 
-pub has_added : (seen reported new : List Entry) (e : Entry) → IsAdded author_of seen reported e new → Contains new e
-has_added seen reported new e a = subst (λ (l : List Entry). Contains l e) (sym a.now) (in_last a.before e)
+pub has_added : (seen reported new : List HistoryEntry) (e : HistoryEntry) → IsAdded author_of seen reported e new → Contains new e
+has_added seen reported new e a = subst (λ (l : List HistoryEntry). Contains l e) (sym a.now) (in_last a.before e)
 
 -- the lines of its chain
-new_lines : (seen reported new : List Entry) (name : NodeName) (stamp : ℕ) (event : Snapshot Event) (pass : ℕ) (step : Snapshot Step) (call : Option CallId)
-    → (a : IsAdded author_of seen reported (AtNode name stamp event pass step call) new) → lines_in name.chain new ≡ lines_in name.chain a.before ++ node_line name.node (node_record stamp event pass step) ∷ []
+new_lines : (seen reported new : List HistoryEntry) (name : NodeName) (stamp : ℕ) (event : Snapshot Event) (pass : ℕ) (step : Snapshot Step) (call : Option CallId)
+    → (a : IsAdded author_of seen reported (NodeStep name stamp event pass step call) new) → lines_in name.chain new ≡ lines_in name.chain a.before ++ node_line name.node (node_record stamp event pass step) ∷ []
 new_lines seen reported new name stamp event pass step call a =
     let c : ℕ = name.chain in
-    let e : Entry = AtNode name stamp event pass step call in
+    let e : HistoryEntry = NodeStep name stamp event pass step call in
     let line : line_in c e ≡ node_line name.node (node_record stamp event pass step) ∷ [] = rw (eq-eqb c c refl) refl in
     ap (lines_in c) a.now ∙ (lines_more c a.before e ∙ ap (λ z. lines_in c a.before ++ z) line)
 
 -- its line
-line_added : (seen reported new : List Entry) (name : NodeName) (stamp : ℕ) (event : Snapshot Event) (pass : ℕ) (step : Snapshot Step) (call : Option CallId)
-    → IsAdded author_of seen reported (AtNode name stamp event pass step call) new → Contains (lines_in name.chain new) (node_line name.node (node_record stamp event pass step))
+line_added : (seen reported new : List HistoryEntry) (name : NodeName) (stamp : ℕ) (event : Snapshot Event) (pass : ℕ) (step : Snapshot Step) (call : Option CallId)
+    → IsAdded author_of seen reported (NodeStep name stamp event pass step call) new → Contains (lines_in name.chain new) (node_line name.node (node_record stamp event pass step))
 line_added seen reported new name stamp event pass step call a =
     let c : ℕ = name.chain in
     let l : MergedStep = node_line name.node (node_record stamp event pass step) in
@@ -165,7 +165,7 @@ line_added seen reported new name stamp event pass step call a =
     subst (λ (z : List MergedStep). Contains z l) (sym ls) (to_contains (lines_in c a.before ++ l ∷ []) l (in_right (lines_in c a.before) (l ∷ []) l (inl refl)))
 
 -- the node may take the step, once its cell has
-pub may_step : {C : Type 0} (represents : C → Plain → Type 0) (old : Desked C) (new : Celled C Event) (w : Written Entry) (reported : List Entry) (event : Event) (noted : Snapshot Event) (pass : ℕ) (step : Snapshot Step) (call : Option CallId) (r : IsRecorded represents old w) (t : Took represents old.cell new r.node event)
+pub may_step : {C : Type 0} (represents : C → Plain → Type 0) (old : Desked C) (new : Celled C Event) (w : Written HistoryEntry) (reported : List HistoryEntry) (event : Event) (noted : Snapshot Event) (pass : ℕ) (step : Snapshot Step) (call : Option CallId) (r : IsRecorded represents old w) (t : Took represents old.cell new r.node event)
     → noted.value ≡ event → step.value ≡ t.step → MayHappen reported old.cell.opening.name event call → IsOfType (HappensAtNode event)
     → MayStep old.cell.opening.name w.seen reported (node_record new.stamp noted pass step) call t.next
 may_step represents old new w reported event noted pass step call r t is says may typed =
@@ -180,14 +180,14 @@ may_step represents old new w reported event noted pass step call r t is says ma
       called = rw is may.called;
     }
 
-has_step : (seen reported new : List Entry) (name : NodeName) (stamp : ℕ) (event : Snapshot Event) (pass : ℕ) (step : Snapshot Step) (call : Option CallId) (taken : Step)
-    → IsAdded author_of seen reported (AtNode name stamp event pass step call) new → step.value ≡ taken → HasStep (lines_in name.chain new) name.node stamp taken
+has_step : (seen reported new : List HistoryEntry) (name : NodeName) (stamp : ℕ) (event : Snapshot Event) (pass : ℕ) (step : Snapshot Step) (call : Option CallId) (taken : Step)
+    → IsAdded author_of seen reported (NodeStep name stamp event pass step call) new → step.value ≡ taken → HasStep (lines_in name.chain new) name.node stamp taken
 has_step seen reported new name stamp event pass step call taken a says =
     record { line = node_line name.node (node_record stamp event pass step); there = line_added seen reported new name stamp event pass step call a; node = refl; under = refl; step = says }
 
 -- its journal grows by its line
-journal_grows : (seen reported new : List Entry) (name : NodeName) (stamp : ℕ) (event : Snapshot Event) (pass : ℕ) (step : Snapshot Step) (call : Option CallId) (r : Record Event) (now was : Option (List (Record Event)))
-    → IsAdded author_of seen reported (AtNode name stamp event pass step call) new → node_line name.node (node_record stamp event pass step) ≡ node_line name.node r → now ≡ option_map (λ rs. rs ++ r ∷ []) was → AreLinesOf (lines_in name.chain seen) name.node was → AreLinesOf (lines_in name.chain new) name.node now
+journal_grows : (seen reported new : List HistoryEntry) (name : NodeName) (stamp : ℕ) (event : Snapshot Event) (pass : ℕ) (step : Snapshot Step) (call : Option CallId) (r : Record Event) (now was : Option (List (Record Event)))
+    → IsAdded author_of seen reported (NodeStep name stamp event pass step call) new → node_line name.node (node_record stamp event pass step) ≡ node_line name.node r → now ≡ option_map (λ rs. rs ++ r ∷ []) was → AreLinesOf (lines_in name.chain seen) name.node was → AreLinesOf (lines_in name.chain new) name.node now
 journal_grows seen reported new name stamp event pass step call r now None a same is h = subst (AreLinesOf (lines_in name.chain new) name.node) (sym is) tt
 journal_grows seen reported new name stamp event pass step call r now (Some rs) a same is h =
     let id : ℕ = name.node in
@@ -208,9 +208,9 @@ last_later xs ys id stamp None p h = tt
 last_later xs ys id stamp (Some s) p h = record { line = h.line; there = line_later xs ys h.line p h.there; node = h.node; under = h.under; step = h.step }
 
 -- so the node is the replay of its entries
-pub now_recorded : {C : Type 0} (represents : C → Plain → Type 0) (old new : Desked C) (w v : Written Entry) (reported : List Entry) (event : Event) (noted : Snapshot Event) (pass : ℕ) (step : Snapshot Step) (call : Option CallId) (r : IsRecorded represents old w) (t : Took represents old.cell new.cell r.node event)
+pub now_recorded : {C : Type 0} (represents : C → Plain → Type 0) (old new : Desked C) (w v : Written HistoryEntry) (reported : List HistoryEntry) (event : Event) (noted : Snapshot Event) (pass : ℕ) (step : Snapshot Step) (call : Option CallId) (r : IsRecorded represents old w) (t : Took represents old.cell new.cell r.node event)
     → noted.value ≡ event → step.value ≡ t.step → MayHappen reported old.cell.opening.name event call → IsOfType (HappensAtNode event)
-    → v.author ≡ w.author → IsAdded author_of w.seen reported (AtNode old.cell.opening.name new.cell.stamp noted pass step call) v.seen → IsRecorded represents new v
+    → v.author ≡ w.author → IsAdded author_of w.seen reported (NodeStep old.cell.opening.name new.cell.stamp noted pass step call) v.seen → IsRecorded represents new v
 now_recorded represents old new w v reported event noted pass step call r t is says may typed author a =
     let name : NodeName = old.cell.opening.name in
     let stamp : ℕ = new.cell.stamp in
@@ -233,7 +233,7 @@ now_recorded represents old new w v reported event noted pass step call r t is s
 
 -- ---- an entry whose name and stamp were read from the cell after the step
 
-module _ {C : Type 0} (represents : C → Plain → Type 0) (old : Desked C) (new : Celled C Event) (w : Written Entry) (reported : List Entry) (event : Event) (noted : Snapshot Event) (pass : ℕ) (step : Snapshot Step) (call : Option CallId) (name : NodeName) (stamp : ℕ)
+module _ {C : Type 0} (represents : C → Plain → Type 0) (old : Desked C) (new : Celled C Event) (w : Written HistoryEntry) (reported : List HistoryEntry) (event : Event) (noted : Snapshot Event) (pass : ℕ) (step : Snapshot Step) (call : Option CallId) (name : NodeName) (stamp : ℕ)
     (r : IsRecorded represents old w) (t : Took represents old.cell new r.node event) (named : name ≡ new.opening.name) (stamped_is : stamp ≡ new.stamp) (is : noted.value ≡ event) (says : step.value ≡ t.step)
     (may : MayHappen reported old.cell.opening.name event call) (typed : IsOfType (HappensAtNode event)) where
   its_name : name ≡ old.cell.opening.name
@@ -242,44 +242,44 @@ module _ {C : Type 0} (represents : C → Plain → Type 0) (old : Desked C) (ne
   pub desk_own : Node name.chain name.node ≡ w.author
   desk_own = rw its_name (sym r.author)
 
-  pub desk_may : MayAdd author_of permit_of IsHistory w.seen reported (AtNode name stamp noted pass step call)
+  pub desk_may : MayAdd author_of permit_of IsHistory w.seen reported (NodeStep name stamp noted pass step call)
   desk_may = rw (its_name, stamped_is) (node_may old.cell.opening.name w.seen reported new.stamp noted pass step call t.next (may_step represents old new w reported event noted pass step call r t is says may typed))
 
-  pub desk_recorded : (waiting : List Call) (v : Written Entry) → v.author ≡ w.author → IsAdded author_of w.seen reported (AtNode name stamp noted pass step call) v.seen → IsRecorded represents (record { cell = new; waiting = waiting }) v
+  pub desk_recorded : (waiting : List Call) (v : Written HistoryEntry) → v.author ≡ w.author → IsAdded author_of w.seen reported (NodeStep name stamp noted pass step call) v.seen → IsRecorded represents (record { cell = new; waiting = waiting }) v
   desk_recorded waiting v author a =
-      let by_name = subst (λ (n : NodeName). IsAdded author_of w.seen reported (AtNode n stamp noted pass step call) v.seen) its_name a in
-      let by_stamp = subst (λ (k : ℕ). IsAdded author_of w.seen reported (AtNode old.cell.opening.name k noted pass step call) v.seen) stamped_is by_name in
+      let by_name = subst (λ (n : NodeName). IsAdded author_of w.seen reported (NodeStep n stamp noted pass step call) v.seen) its_name a in
+      let by_stamp = subst (λ (k : ℕ). IsAdded author_of w.seen reported (NodeStep old.cell.opening.name k noted pass step call) v.seen) stamped_is by_name in
       now_recorded represents old (record { cell = new; waiting = waiting }) w v reported event noted pass step call r t is says may typed author by_stamp
 
-  pub desk_taken : (seen log : List Entry) → IsAdded author_of w.seen reported (AtNode name stamp noted pass step call) seen → log ≡ seen → IfSome new.last (λ (s : Step). HasTaken log new.opening.name new.stamp event pass s call)
+  pub desk_taken : (seen log : List HistoryEntry) → IsAdded author_of w.seen reported (NodeStep name stamp noted pass step call) seen → log ≡ seen → IfSome new.last (λ (s : Step). HasTaken log new.opening.name new.stamp event pass s call)
   desk_taken seen log a same =
-      let there : Contains log (AtNode name stamp noted pass step call) = subst (λ (l : List Entry). Contains l (AtNode name stamp noted pass step call)) (sym same) (has_added w.seen reported seen (AtNode name stamp noted pass step call) a) in
-      let at_name = subst (λ (n : NodeName). Contains log (AtNode n stamp noted pass step call)) named there in
-      let at_stamp = subst (λ (k : ℕ). Contains log (AtNode new.opening.name k noted pass step call)) stamped_is at_name in
+      let there : Contains log (NodeStep name stamp noted pass step call) = subst (λ (l : List HistoryEntry). Contains l (NodeStep name stamp noted pass step call)) (sym same) (has_added w.seen reported seen (NodeStep name stamp noted pass step call) a) in
+      let at_name = subst (λ (n : NodeName). Contains log (NodeStep n stamp noted pass step call)) named there in
+      let at_stamp = subst (λ (k : ℕ). Contains log (NodeStep new.opening.name k noted pass step call)) stamped_is at_name in
       some_last new.last t.step (λ (s : Step). HasTaken log new.opening.name new.stamp event pass s call) t.last (noted, step, at_stamp, is, says)
 
-  pub desk_after : (seen log : List Entry) → IsAdded author_of w.seen reported (AtNode name stamp noted pass step call) seen → log ≡ seen → IfSome new.last (λ (s : Step). HasTakenAfter reported log new.opening.name new.stamp event pass s call)
+  pub desk_after : (seen log : List HistoryEntry) → IsAdded author_of w.seen reported (NodeStep name stamp noted pass step call) seen → log ≡ seen → IfSome new.last (λ (s : Step). HasTakenAfter reported log new.opening.name new.stamp event pass s call)
   desk_after seen log a same =
-      let here : StandsAfter reported log (AtNode name stamp noted pass step call) = subst (λ (l : List Entry). StandsAfter reported l (AtNode name stamp noted pass step call)) (sym same) (stands_last w.seen reported seen (AtNode name stamp noted pass step call) a) in
-      let at_name = subst (λ (n : NodeName). StandsAfter reported log (AtNode n stamp noted pass step call)) named here in
-      let at_stamp = subst (λ (k : ℕ). StandsAfter reported log (AtNode new.opening.name k noted pass step call)) stamped_is at_name in
+      let here : StandsAfter reported log (NodeStep name stamp noted pass step call) = subst (λ (l : List HistoryEntry). StandsAfter reported l (NodeStep name stamp noted pass step call)) (sym same) (stands_last w.seen reported seen (NodeStep name stamp noted pass step call) a) in
+      let at_name = subst (λ (n : NodeName). StandsAfter reported log (NodeStep n stamp noted pass step call)) named here in
+      let at_stamp = subst (λ (k : ℕ). StandsAfter reported log (NodeStep new.opening.name k noted pass step call)) stamped_is at_name in
       some_last new.last t.step (λ (s : Step). HasTakenAfter reported log new.opening.name new.stamp event pass s call) t.last (noted, step, at_stamp, is, says)
 
 -- ---- the step in a longer history
 
-pub taken_in : (new : List Entry) (name : NodeName) (stamp : ℕ) (event : Event) (noted : Snapshot Event) (pass : ℕ) (step : Snapshot Step) (s : Step) (call : Option CallId)
-    → Contains new (AtNode name stamp noted pass step call) → noted.value ≡ event → step.value ≡ s → HasTaken new name stamp event pass s call
+pub taken_in : (new : List HistoryEntry) (name : NodeName) (stamp : ℕ) (event : Event) (noted : Snapshot Event) (pass : ℕ) (step : Snapshot Step) (s : Step) (call : Option CallId)
+    → Contains new (NodeStep name stamp noted pass step call) → noted.value ≡ event → step.value ≡ s → HasTaken new name stamp event pass s call
 taken_in new name stamp event noted pass step s call there is says = (noted, step, there, is, says)
 
-taken_later : (xs ys : List Entry) (name : NodeName) (stamp : ℕ) (event : Event) (pass : ℕ) (step : Step) (call : Option CallId) → IsPrefix xs ys → HasTaken xs name stamp event pass step call → HasTaken ys name stamp event pass step call
+taken_later : (xs ys : List HistoryEntry) (name : NodeName) (stamp : ℕ) (event : Event) (pass : ℕ) (step : Step) (call : Option CallId) → IsPrefix xs ys → HasTaken xs name stamp event pass step call → HasTaken ys name stamp event pass step call
 taken_later xs ys name stamp event pass step call p (e, s, there, is, says) =
-    (e, s, in_later xs ys (AtNode name stamp e pass s call) p there, is, says)
+    (e, s, in_later xs ys (NodeStep name stamp e pass s call) p there, is, says)
 
-pub accepted_later : (xs ys : List Entry) (name : NodeName) (call : CallId) (ticket : ℕ) → IsPrefix xs ys → HasAccepted xs name call ticket → HasAccepted ys name call ticket
-accepted_later xs ys name call ticket p h =
-    record { stamp = h.stamp; event = h.event; pass = h.pass; step = h.step; taken = taken_later xs ys name h.stamp h.event h.pass h.step (Some call) p h.taken; under = h.under }
+pub accepted_later : (xs ys : List HistoryEntry) (name : NodeName) (call : CallId) (c : Call) → IsPrefix xs ys → HasAccepted xs name call c → HasAccepted ys name call c
+accepted_later xs ys name call c p h =
+    record { event = h.event; step = h.step; taken = taken_later xs ys name c.asked.stamp h.event c.pass h.step (Some call) p h.taken; under = h.under }
 
-pub answered_later : (xs ys : List Entry) (name : NodeName) (ticket stamp : ℕ) (answer : Answer) → IsPrefix xs ys → HasAnswered xs name ticket stamp answer → HasAnswered ys name ticket stamp answer
+pub answered_later : (xs ys : List HistoryEntry) (name : NodeName) (ticket stamp : ℕ) (answer : Answer) → IsPrefix xs ys → HasAnswered xs name ticket stamp answer → HasAnswered ys name ticket stamp answer
 answered_later xs ys name ticket stamp answer p h =
     record { event = h.event; pass = h.pass; step = h.step; accepted = h.accepted; taken = taken_later xs ys name stamp h.event h.pass h.step h.accepted p h.taken; out = h.out }
 
@@ -313,7 +313,7 @@ of_outs calls receipt [] all sub = tt
 of_outs calls receipt (o ∷ os) all sub =
     all_both (IsOfStep receipt all) (called_by calls receipt o) (called_in calls receipt os) (by_out calls receipt o all (sub o (inl refl))) (of_outs calls receipt os all (λ p i. sub p (inr i)))
 
-replied_each : (log : List Entry) (name : NodeName) (receipt : Receipt) (event : Event) (pass : ℕ) (step : Step) (call : Option CallId) → HasTaken log name receipt.stamp event pass step call
+replied_each : (log : List HistoryEntry) (name : NodeName) (receipt : Receipt) (event : Event) (pass : ℕ) (step : Step) (call : Option CallId) → HasTaken log name receipt.stamp event pass step call
     → (cs : List Called) → AllByRecursion (IsOfStep receipt step.outs) cs → HaveReplied log name cs
 replied_each log name receipt event pass step call taken [] a = tt
 replied_each log name receipt event pass step call taken (c ∷ cs) a = (
@@ -329,7 +329,7 @@ replied_each log name receipt event pass step call taken (c ∷ cs) a = (
 )
 
 -- each call receipt of a step is a reply that the node gave in it
-pub step_replied : (log : List Entry) (name : NodeName) (receipt : Receipt) (event : Event) (pass : ℕ) (step : Step) (call : Option CallId) (old new : List Call) (calls : Result (Vec Called Global) AllocError)
+pub step_replied : (log : List HistoryEntry) (name : NodeName) (receipt : Receipt) (event : Event) (pass : ℕ) (step : Step) (call : Option CallId) (old new : List Call) (calls : Result (Vec Called Global) AllocError)
     → HasTaken log name receipt.stamp event pass step call → CallsOf old new event receipt pass step calls → IfOk calls (λ (receipts : Vec Called Global). HaveReplied log name receipts.items)
 step_replied log name receipt event pass step call old new (Ok receipts) taken calls =
     let own : List Call = accepted (ask_of event) step.ticket receipt pass in
@@ -347,7 +347,7 @@ same_some h = cc h
 at_last : (o : Option Step) (s : Step) (P : Step → Type 0) → o ≡ Some s → IfSome o P → P s
 at_last o s P is h = subst (λ (x : Option Step). IfSome x P) is h
 
-pub last_replied : {C : Type 0} (log : List Entry) (cell : Celled C Event) (event : Event) (pass : ℕ) (call : Option CallId) (s : Step) → cell.last ≡ Some s
+pub last_replied : {C : Type 0} (log : List HistoryEntry) (cell : Celled C Event) (event : Event) (pass : ℕ) (call : Option CallId) (s : Step) → cell.last ≡ Some s
     → IfSome cell.last (λ (x : Step). HasTaken log cell.opening.name cell.stamp event pass x call) → (receipt : Receipt) → receipt ≡ receipt_of cell → (old new : List Call) (calls : Result (Vec Called Global) AllocError)
     → IfSome cell.last (λ (x : Step). CallsOf old new event receipt pass x calls) → IfOk calls (λ (receipts : Vec Called Global). HaveReplied log cell.opening.name receipts.items)
 last_replied log cell event pass call s last taken receipt is old new calls served =

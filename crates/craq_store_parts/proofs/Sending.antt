@@ -13,7 +13,7 @@ use Rattle.craq_causality.proofs.Arrivals.{named_from}
 use Rattle.craq_causality.proofs.Orders.{IsIn, all_by}
 use Rattle.craq_store_parts.specs.declared.encoding.Sent.{Sent}
 use Rattle.craq_store_parts.specs.Encoded.{AreSentAs, brings_from, entries_from}
-use Rattle.craq_store_history.specs.declared.entry.Entry.{Entry}
+use Rattle.craq_store_history.specs.declared.entry.HistoryEntry.{HistoryEntry}
 use Rattle.craq_store_history.specs.Entries.{lines_in}
 use Rattle.craq_store_parts.specs.Recorded.{HasStep}
 use Rattle.craq_store_parts.specs.Sent.{AreWired}
@@ -40,13 +40,13 @@ all_sent lines id stamp step h =
       message = rw (h.node, h.under, h.step) (subst (λ (k : ℕ). slice_get (numbered_from 0 receipt ms) k ≡ Some m) (sym index) g.1);
     })
 
-wired : (chain : ℕ) (log : List Entry) (sent : List Sent) (ms : List LinkMessage) → AllByRecursion (WasSent (lines_in chain log)) ms → AreSentAs sent ms → AreWired chain log sent
+wired : (chain : ℕ) (log : List HistoryEntry) (sent : List Sent) (ms : List LinkMessage) → AllByRecursion (WasSent (lines_in chain log)) ms → AreSentAs sent ms → AreWired chain log sent
 wired chain log [] [] a b = tt
 wired chain log [] (m ∷ ms) a b = absurd b
 wired chain log (s ∷ ss) [] a b = absurd b
 wired chain log (s ∷ ss) (m ∷ ms) a b = (record { message = m; spelled = b.0.bytes; sent = a.0 }, wired chain log ss ms a.1 b.1)
 
-none_wired : (chain : ℕ) (log : List Entry) (sent : List Sent) → sent ≡ [] → AreWired chain log sent
+none_wired : (chain : ℕ) (log : List HistoryEntry) (sent : List Sent) → sent ≡ [] → AreWired chain log sent
 none_wired chain log sent is = subst (AreWired chain log) (sym is) tt
 
 kept_all : (P : LinkMessage → Type 0) (f : LinkMessage → Bool) (ms : List LinkMessage) → AllByRecursion P ms → AllByRecursion P (filter f ms)
@@ -57,18 +57,18 @@ kept_all P f (m ∷ ms) a = keep (f m) m (filter f ms) a.0 (kept_all P f ms a.1)
     keep true m rest p r = (p, r)
     keep false m rest p r = r
 
-some_wired : (chain : ℕ) (log : List Entry) (sent : List Sent) (ms : List LinkMessage) → AllByRecursion (WasSent (lines_in chain log)) ms → (sent ≡ []) ⊎ AreSentAs sent ms → AreWired chain log sent
+some_wired : (chain : ℕ) (log : List HistoryEntry) (sent : List Sent) (ms : List LinkMessage) → AllByRecursion (WasSent (lines_in chain log)) ms → (sent ≡ []) ⊎ AreSentAs sent ms → AreWired chain log sent
 some_wired chain log sent ms a (inl none) = none_wired chain log sent none
 some_wired chain log sent ms a (inr all) = wired chain log sent ms a all
 
 -- the messages of a last step
-pub step_wired : (chain : ℕ) (log : List Entry) (id stamp : ℕ) (sent : List Sent) (last : Option Step) → IfSome last (λ (s : Step). HasStep (lines_in chain log) id stamp s)
+pub step_wired : (chain : ℕ) (log : List HistoryEntry) (id stamp : ℕ) (sent : List Sent) (last : Option Step) → IfSome last (λ (s : Step). HasStep (lines_in chain log) id stamp s)
     → IfSome last (λ (s : Step). (sent ≡ []) ⊎ AreSentAs sent (numbered_from 0 (record { node = id; stamp = stamp }) (sent_in s.outs))) → (last ≡ None → sent ≡ []) → AreWired chain log sent
 step_wired chain log id stamp sent None h all none = none_wired chain log sent (none refl)
 step_wired chain log id stamp sent (Some s) h all none = some_wired chain log sent (numbered_from 0 (record { node = id; stamp = stamp }) (sent_in s.outs)) (all_sent (lines_in chain log) id stamp s h) all
 
 -- those of them that bring entries
-pub entries_wired : (chain : ℕ) (log : List Entry) (id stamp first : ℕ) (sent : List Sent) (last : Option Step) → IfSome last (λ (s : Step). HasStep (lines_in chain log) id stamp s)
+pub entries_wired : (chain : ℕ) (log : List HistoryEntry) (id stamp first : ℕ) (sent : List Sent) (last : Option Step) → IfSome last (λ (s : Step). HasStep (lines_in chain log) id stamp s)
     → IfSome last (λ (s : Step). (sent ≡ []) ⊎ AreSentAs sent (entries_from first (numbered_from 0 (record { node = id; stamp = stamp }) (sent_in s.outs)))) → (last ≡ None → sent ≡ []) → AreWired chain log sent
 entries_wired chain log id stamp first sent None h all none = none_wired chain log sent (none refl)
 entries_wired chain log id stamp first sent (Some s) h all none =

@@ -15,13 +15,13 @@ use Rattle.craq_causality.specs.Causal.{WasSent}
 use Rattle.craq_ghost_history.specs.declared.author.Author.TheVariants.{Client}
 use Rattle.craq_ghost_history.specs.Histories.{IsAdded, Written}
 use Rattle.craq_store_history.specs.declared.entry.CallId.{CallId}
-use Rattle.craq_store_history.specs.declared.entry.Entry.{Entry}
-use Rattle.craq_store_history.specs.declared.entry.Entry.TheVariants.{Called}
+use Rattle.craq_store_history.specs.declared.entry.HistoryEntry.{HistoryEntry}
+use Rattle.craq_store_history.specs.declared.entry.HistoryEntry.TheVariants.{ClientCall}
 use Rattle.craq_store_history.specs.Entries.{author_of, lines_in}
 use Rattle.craq_store_history.specs.Steps.{MayMake}
 
 -- in this history a node of the chain, or its master, sent a message that these bytes encode
-pub record AreSentBytes (chain : ℕ) (bytes : List ℕ) (log : List Entry) : Type 0 where
+pub record AreSentBytes (chain : ℕ) (bytes : List ℕ) (log : List HistoryEntry) : Type 0 where
   pub message : LinkMessage
   pub spelled : Encodes message bytes
   pub sent : WasSent (lines_in chain log) message
@@ -32,7 +32,7 @@ pub record Wired : Type 0 where
   pub bytes : List ℕ
 
 -- in this history each of these messages was sent
-abbrev pub AreWired : ℕ → List Entry → List Sent → Type 0
+abbrev pub AreWired : ℕ → List HistoryEntry → List Sent → Type 0
 AreWired chain log sent = AllByRecursion (λ (s : Sent). AreSentBytes chain s.bytes log) sent
 
 -- the view that contracts have of messages that leave a node of a chain, in order
@@ -54,22 +54,27 @@ pub record Made : Type 0 where
 -- the view that contracts have of a call that was made, with its permit: what names it, and the history that the permit has seen
 pub record MadeCall : Type 0 where
   pub call : CallId
-  pub seen : List Entry
+  pub seen : List HistoryEntry
 
 -- the view that contracts have of an event's origin: the call that it accepts, if there is one, and the history that it follows
 pub record Following : Type 0 where
   pub call : Option CallId
-  pub seen : List Entry
+  pub seen : List HistoryEntry
 
 -- the call of an origin, if there is one
 abbrev pub made_in : Following → Option MadeCall
 made_in o = option_map (λ call. record { call = call; seen = o.seen }) o.call
 
--- the view that contracts have of a refusal, of the call that it gives back, and of the history at which the node's rules gave it
+-- the view that contracts have of a moment at which a node refuses a call: the pass with which it does, and the history then
+pub record Moment : Type 0 where
+  pub pass : ℕ
+  pub seen : List HistoryEntry
+
+-- the view that contracts have of a refusal, of the call that it gives back, and of the moment at which the node's rules gave it
 pub record RefusedCall : Type 0 where
   pub refusal : Refusal
   pub back : Option MadeCall
-  pub moment : Option (List Entry)
+  pub moment : Option Moment
 
 -- the receipt of a step that was taken, or its refusal
 abbrev pub outcome_of : {X : Type 0} → Result (Receipt × X) RefusedCall → Result Receipt Refusal
@@ -77,7 +82,7 @@ outcome_of (Ok r) = Ok r.0
 outcome_of (Err e) = Err e.refusal
 
 -- the session's writer has the right to its calls, whose numbers are below the next, and to the permits of the calls from the next on
-pub record IsSession (client next : ℕ) (writer : Written Entry) : Type 0 where
+pub record IsSession (client next : ℕ) (writer : Written HistoryEntry) : Type 0 where
   pub author : writer.author ≡ Client client
   pub permits : writer.next ≡ next
   pub fresh : MayMake writer.seen (record { client = client; number = next })
@@ -86,8 +91,8 @@ pub record IsSession (client next : ℕ) (writer : Written Entry) : Type 0 where
 pub record Calling : Type 0 where
   pub client : ℕ
   pub next : ℕ
-  pub seen : List Entry
+  pub seen : List HistoryEntry
 
 -- the call was added to all that was there, which began with what the session had seen
-abbrev pub IsMade : List Entry → CallId → NodeName → Ask → List Entry → Type 0
-IsMade old call name ask new = (a : Snapshot Ask) × (a.value ≡ ask) × IsAdded author_of old [] (Called call name a) new
+abbrev pub IsMade : List HistoryEntry → CallId → NodeName → Ask → List HistoryEntry → Type 0
+IsMade old call name ask new = (a : Snapshot Ask) × (a.value ≡ ask) × IsAdded author_of old [] (ClientCall call name a) new

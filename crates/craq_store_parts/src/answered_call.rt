@@ -1,44 +1,66 @@
 //! `AcceptedCall`, `StepReceipt` and `AnsweredCall`: a call that a node accepted, and its reply,
-//! with tokens of the steps in which the node did so.
+//! with tokens of the steps in which the node did so. `Acceptance` names the first of them.
 ghost use Rattle.std.specs.Prelude.{◌≡◌, IfSome};
-ghost use Rattle.craq_store_parts.specs.Recorded.{HasAccepted, HasReplied};
+ghost use Rattle.craq_store_parts.specs.Recorded.{HasAccepted, HasReplied, WasAccepted};
 
 use crate::StoreToken;
 use craq_ghost_history::Named;
-use craq_names::{NodeName, Ticket};
+use craq_names::{NodeName, Pass, Stamp, Ticket};
 use craq_seat::CallReceipt;
 use craq_store_history::CallId;
 use std::marker::Model;
 
-/// A call that a node accepted under a ticket, in the token's history.
+/// Names the step in which a node accepted a call: the ticket that the call got, the step's stamp,
+/// and the pass that came with the request.
+#[derive(Clone, Copy, Debug, PartialEq, Eq)]
+pub struct Acceptance {
+    pub ticket: Ticket,
+    pub stamp: Stamp,
+    pub pass: Pass,
+}
+
+impl Acceptance {
+    /// Returns the acceptance of which a receipt tells.
+    fn of(receipt: &CallReceipt) -> Self
+        ensures { result ≡ record { ticket = receipt.now.call.ticket; stamp = receipt.now.call.asked.stamp; pass = receipt.now.call.pass } }
+    {
+        Acceptance {
+            ticket: receipt.ticket(),
+            stamp: receipt.asked().stamp,
+            pass: receipt.pass(),
+        }
+    }
+}
+
+/// A call that a node accepted, in the token's history.
 #[derive(Drop)]
 pub struct AcceptedCall<N: Named> {
     call: CallId,
     name: NodeName,
-    ticket: Ticket,
+    acceptance: Acceptance,
     token: StoreToken<N>,
 }
 
 impl<N: Named> Model for AcceptedCall<N> {
-    ghost use Rattle.craq_store_parts.specs.Recorded.{Accepted, HasAccepted};
+    ghost use Rattle.craq_store_parts.specs.Recorded.{Accepted, WasAccepted};
 
     ghost Value = { Accepted };
 
-    ghost view = { λ a. record { call = a.call; name = a.name; ticket = a.ticket } };
+    ghost view = { λ a. record { call = a.call; name = a.name; ticket = a.acceptance.ticket; stamp = a.acceptance.stamp; pass = a.acceptance.pass } };
 
-    ghost invariant = { λ a. HasAccepted a.token a.name a.call a.ticket };
+    ghost invariant = { λ a. WasAccepted a.token a.name a.call a.acceptance.ticket a.acceptance.stamp a.acceptance.pass };
 }
 
 impl<N: Named> AcceptedCall<N> {
     /// Makes the value of a call that the node accepted in the token's history.
-    pub fn new(call: CallId, name: NodeName, ticket: Ticket, token: StoreToken<N>) -> Self
-        requires { HasAccepted token name call ticket }
-        ensures { result ≡ record { call = call; name = name; ticket = ticket } }
+    pub fn new(call: CallId, name: NodeName, acceptance: Acceptance, token: StoreToken<N>) -> Self
+        requires { WasAccepted token name call acceptance.ticket acceptance.stamp acceptance.pass }
+        ensures { result ≡ record { call = call; name = name; ticket = acceptance.ticket; stamp = acceptance.stamp; pass = acceptance.pass } }
     {
         AcceptedCall {
             call,
             name,
-            ticket,
+            acceptance,
             token,
         }
     }
@@ -47,7 +69,7 @@ impl<N: Named> AcceptedCall<N> {
     pub fn ticket(&self) -> Ticket
         ensures { result ≡ self.now.ticket }
     {
-        self.ticket
+        self.acceptance.ticket
     }
 }
 
@@ -145,14 +167,14 @@ impl<N: Named> AnsweredCall<N> {
         name: NodeName,
     ) -> Option<(CallReceipt, StoreToken<N>, StoreToken<N>)>
         ensures receipt { IfSome result (λ r. r.0 ≡ self) }
-        ensures accepted { IfSome result (λ r. HasAccepted r.1 name call self.call.ticket) }
+        ensures accepted { IfSome result (λ r. HasAccepted r.1 name call self.call) }
         ensures replied { IfSome result (λ r. HasReplied r.2 name self) }
     {
         let AnsweredCall { accepted, reply } = self;
         let AcceptedCall {
             call: made,
             name: at,
-            ticket,
+            acceptance,
             token: accepted,
         } = accepted;
         let StepReceipt {
@@ -160,7 +182,8 @@ impl<N: Named> AnsweredCall<N> {
             name: there,
             token: replied,
         } = reply;
-        if made == call && at == name && there == name && ticket == receipt.ticket() {
+        let told = Acceptance::of(&receipt);
+        if made == call && at == name && there == name && acceptance == told {
             Some((receipt, accepted, replied))
         } else {
             drop(receipt);

@@ -25,12 +25,12 @@ mod session;
 mod stopped_node;
 mod wire;
 
-pub use answered_call::{AcceptedCall, AnsweredCall, StepReceipt};
+pub use answered_call::{Acceptance, AcceptedCall, AnsweredCall, StepReceipt};
 pub use at::At;
 pub use call_made::CallMade;
 pub use cause::{Cause, Origin};
-use craq_ghost_history::{Grant, History, Token, Writer};
-use craq_store_history::{Entry, StoreRule};
+use craq_ghost_history::{GhostHistory, Grant, Token, Writer};
+use craq_store_history::{HistoryEntry, StoreRule};
 pub use encoding::{Kind, Sent, encode_entries, encode_sent, lone_entry};
 pub use joined_node::{JoinedNode, open_joined};
 pub use lone_ack::LoneAck;
@@ -38,19 +38,19 @@ pub use made_ask::MadeAsk;
 pub use messages::{Messages, Outgoing, OwedAck};
 pub use recorded_book::RecordedBook;
 pub use recorded_desk::{RecordedDesk, StepCalls};
-pub use refused::Refused;
+pub use refused::{RefusalMoment, Refused};
 pub use session::Session;
 pub use stopped_node::StoppedNode;
 pub use wire::Wire;
 
 /// The history of a store.
-pub type StoreHistory<N> = History<Entry, StoreRule, N>;
+pub type StoreHistory<N> = GhostHistory<HistoryEntry, StoreRule, N>;
 
 /// A prefix of a store's history that was seen.
-pub type StoreToken<N> = Token<Entry, StoreRule, N>;
+pub type StoreToken<N> = Token<HistoryEntry, StoreRule, N>;
 
 /// A prefix of a store's history that was seen, with the permit of a call if it has one.
-pub type StoreGrant<N> = Grant<Entry, StoreRule, N>;
+pub type StoreGrant<N> = Grant<HistoryEntry, StoreRule, N>;
 
 /// The right to the entries of one author in a store's history.
-pub type StoreWriter<N> = Writer<Entry, StoreRule, N>;
+pub type StoreWriter<N> = Writer<HistoryEntry, StoreRule, N>;

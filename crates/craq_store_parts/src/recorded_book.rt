@@ -18,7 +18,7 @@ use crate::{StoreHistory, StoreToken, StoreWriter};
 use craq_ghost_history::{Grant, Named};
 use craq_names::{NodeId, NodeName, Pass, Refusal};
 use craq_seat::{BookCell, BookEvent, Receipt};
-use craq_store_history::Entry;
+use craq_store_history::HistoryEntry;
 use std::alloc::Global;
 use std::marker::Model;
 use std::snapshot::Snapshot;
@@ -71,7 +71,7 @@ impl<N: Named> RecordedBook<N> {
     {
         cell.journal();
         let mut writer = writer;
-        let entry = Entry::Opened {
+        let entry = HistoryEntry::ChainOpened {
             chain: cell.opening().name.chain,
             members: Snapshot::of(&cell.config().members),
         };
@@ -112,7 +112,7 @@ impl<N: Named> RecordedBook<N> {
                 let Some(step) = self.cell.last() else {
                     unreachable!()
                 };
-                let entry = Entry::AtMaster {
+                let entry = HistoryEntry::MasterStep {
                     chain: self.cell.opening().name.chain,
                     stamp: self.cell.stamp(),
                     event,

@@ -1,7 +1,6 @@
 //! `RecordedDesk`: a node's desk whose steps are entries of the store's history; a running node has
 //! one under its lock.
-ghost use Rattle.std.specs.Prelude.{◌≡◌, ℕ, false, [], None, Some, if◌then◌else◌, IfErr, IfOk, IfSome, IsNone, IsOk, IsSome, OnErr};
-ghost use Rattle.craq_model.specs.declared.ask.Ask.{Ask};
+ghost use Rattle.std.specs.Prelude.{◌≡◌, ℕ, false, [], None, Some, if◌then◌else◌, IfErr, IfOk, IfSome, IsNone, IsOk, IsSome, OnErr, option_map};
 ghost use Rattle.craq_model.specs.declared.ask.Event.{Event};
 ghost use Rattle.craq_model.specs.Plain.{Plain};
 ghost use Rattle.craq_node.specs.Represented.{CanArrive, IsFree};
@@ -12,24 +11,24 @@ ghost use Rattle.craq_seat.specs.Stamps.{event_stamp, next_stamp};
 ghost use Rattle.craq_seat.specs.Taken.{TakesEvent};
 ghost use Rattle.craq_ghost_history.specs.declared.author.Author.TheVariants as Author;
 ghost use Rattle.craq_store_history.specs.Entries.{lines_in};
-ghost use Rattle.craq_store_history.specs.Chains.{Accepts, WasCalled};
+ghost use Rattle.craq_store_history.specs.Chains.{Accepts};
 ghost use Rattle.craq_store_parts.specs.Recorded.{CanBegin, HadLinesIn, HasLinesIn, HasStep, HasTaken, HasTakenAfter, HaveReplied, IsRecorded, MayHappen, accepted_under};
 ghost use Rattle.craq_store_parts.specs.Sent.{made_in, outcome_of};
 ghost use Rattle.craq_store_parts.specs.Witnessed.{RefusesAt};
 
-use crate::answered_call::AcceptedCall;
+use crate::answered_call::{Acceptance, AcceptedCall};
 use crate::call_made::CallMade;
 use crate::cause::{Cause, Origin};
 use crate::limits::keep_event_limits;
-use crate::refused::Refused;
+use crate::refused::{RefusalMoment, Refused};
 use crate::stopped_node::StoppedNode;
 use crate::{StoreHistory, StoreToken, StoreWriter};
 use craq_ghost_history::Named;
 use craq_model::Event;
-use craq_names::Refusal;
+use craq_names::{Pass, Refusal};
 use craq_node::Core;
 use craq_seat::{CallReceipt, Cell, Desk, Receipt};
-use craq_store_history::{CallId, Entry};
+use craq_store_history::{CallId, HistoryEntry};
 use std::alloc::{AllocError, Global};
 use std::marker::Model;
 use std::snapshot::Snapshot;
@@ -43,15 +42,17 @@ pub struct StepCalls<N: Named> {
     pub token: StoreToken<N>,
 }
 
-/// Returns the call that a cell's last step accepted, if it accepted one under a ticket.
+/// Returns the call that a cell's last step, which came with this pass, accepted, if it accepted one
+/// under a ticket.
 fn accepted_call<C: Core + Named>(
     history: &StoreHistory<C>,
     cell: &Cell<C>,
+    pass: Pass,
     call: &Option<CallId>,
     token: &mut StoreToken<C>,
 ) -> Option<AcceptedCall<C>>
-    requires { (event : Event) × (pass : ℕ) × IfSome cell.now.last (λ step. HasTaken token.old cell.now.opening.name cell.now.stamp event pass step call.now) }
-    ensures accepted { IfSome cell.now.last (λ step. result ≡ accepted_under cell.now.opening.name call.now step.ticket) }
+    requires { (event : Event) × IfSome cell.now.last (λ step. HasTaken token.old cell.now.opening.name cell.now.stamp event pass step call.now) }
+    ensures accepted { IfSome cell.now.last (λ step. result ≡ accepted_under cell.now.opening.name cell.now.stamp pass call.now step.ticket) }
     ensures same { token.new ≡ token.old }
 {
     let Some(call) = call else {
@@ -59,51 +60,41 @@ fn accepted_call<C: Core + Named>(
     };
     let ticket = cell.last()?.ticket?;
     let name = cell.opening().name;
-    Some(AcceptedCall::new(*call, name, ticket, token.again(history)))
+    let acceptance = Acceptance {
+        ticket,
+        stamp: cell.stamp(),
+        pass,
+    };
+    Some(AcceptedCall::new(*call, name, acceptance, token.again(history)))
 }
 
-/// Makes the refusal of a call by a node's rules. The node sees the call first, so the refusal's
-/// moment comes after it, and has all of the node's steps.
-fn refuse_call<C: Core + Named>(
-    history: &StoreHistory<C>,
-    desk: &Desk<C>,
-    writer: &mut StoreWriter<C>,
-    refusal: Refusal,
-    made: CallMade<C>,
-) -> Refused<C>
-    requires recorded { IsRecorded C.represents desk.now writer.old }
-    requires refuses { (ask : Ask) × WasCalled made.seen made.call desk.now.cell.opening.name ask × RefusesAt writer.old.seen desk.now.cell.opening.name desk.now.cell.stamp (Event.Ask ask) refusal }
-    ensures refused { result ≡ record { refusal = refusal; back = Some made; moment = Some writer.new.seen } }
-    ensures recorded { IsRecorded C.represents desk.now writer.new }
-{
-    let _ = desk;
-    let mut made = made;
-    let called = made.token(history);
-    writer.learn(history, called);
-    let moment = writer.token(history);
-    Refused::by_node(refusal, made, moment)
-}
-
-/// Makes the refusal of an event by a node's rules. It gives the call of the event's origin back, if
-/// there is one, with the moment at which the node refuses it.
+/// Makes the refusal of an event by a node's rules, with the cause's pass. It gives the call of the
+/// cause back, if there is one, with the moment at which the node refuses it: the node sees the call
+/// first, so the moment comes after it, and has all of the node's steps.
 fn refuse<C: Core + Named>(
     history: &StoreHistory<C>,
     desk: &Desk<C>,
     writer: &mut StoreWriter<C>,
     refusal: Refusal,
-    origin: Origin<C>,
+    cause: Cause<C>,
 ) -> Refused<C>
     requires recorded { IsRecorded C.represents desk.now writer.old }
-    requires refuses { (event : Event) × Accepts origin.seen desk.now.cell.opening.name event origin.call × RefusesAt writer.old.seen desk.now.cell.opening.name desk.now.cell.stamp event refusal }
+    requires refuses { (event : Event) × Accepts cause.origin.seen desk.now.cell.opening.name event cause.origin.call × RefusesAt writer.old.seen desk.now.cell.opening.name desk.now.cell.stamp event cause.pass refusal }
     ensures refusal { result.refusal ≡ refusal }
-    ensures back { result.back ≡ made_in origin }
-    ensures moment { IsSome origin.call → IsSome result.moment }
+    ensures back { result.back ≡ made_in cause.origin }
+    ensures moment { IsSome cause.origin.call → option_map (λ moment. moment.pass) result.moment ≡ Some cause.pass }
     ensures recorded { IsRecorded C.represents desk.now writer.new }
 {
-    match origin.back() {
-        None => Refused::new(refusal, None),
-        Some(made) => refuse_call(history, desk, writer, refusal, made),
-    }
+    let _ = desk;
+    let Cause { pass, origin } = cause;
+    let Some(made) = origin.back() else {
+        return Refused::new(refusal, None);
+    };
+    let mut made = made;
+    let called = made.token(history);
+    writer.learn(history, called);
+    let moment = RefusalMoment::new(pass, writer.token(history));
+    Refused::by_node(refusal, made, moment)
 }
 
 /// A node's desk, with the right to the node's entries in the store's history. Each step of the
@@ -162,7 +153,7 @@ impl<C: Core + Named> RecordedDesk<C> {
     /// Takes one step of the desk, exactly as `Desk::take` does, and adds it to the history, after
     /// all that the origin of its cause has seen. A step that accepts a call uses the call's permit
     /// up. On a refusal nothing is changed and nothing added. The call is given back then, with the
-    /// moment of the history at which the node refuses it.
+    /// moment of the history at which the node refuses it with the cause's pass.
     pub fn take(
         &mut self,
         alloc: Global,
@@ -179,10 +170,10 @@ impl<C: Core + Named> RecordedDesk<C> {
         ensures calls { IfOk result (λ r. IfSome self.new.cell.last (λ step. CallsOf self.old.waiting self.new.waiting event r.0 cause.pass step r.1.calls)) }
         ensures same { OnErr result (self.new.waiting ≡ self.old.waiting) }
         ensures back { IfErr result (λ e. e.back ≡ made_in cause.origin) }
-        ensures moment { IfErr result (λ e. IsSome cause.origin.call → IsSome e.moment) }
+        ensures moment { IfErr result (λ e. IsSome cause.origin.call → option_map (λ moment. moment.pass) e.moment ≡ Some cause.pass) }
         ensures opening { self.new.cell.opening ≡ self.old.cell.opening }
         ensures moved { IfOk result (λ r. IsSome self.new.cell.last) }
-        ensures accepted { IfOk result (λ r. IfSome self.new.cell.last (λ step. r.1.accepted ≡ accepted_under self.new.cell.opening.name cause.origin.call step.ticket)) }
+        ensures accepted { IfOk result (λ r. IfSome self.new.cell.last (λ step. r.1.accepted ≡ accepted_under self.new.cell.opening.name self.new.cell.stamp cause.pass cause.origin.call step.ticket)) }
         ensures taken { IfOk result (λ r. IfSome self.new.cell.last (λ step. HasTakenAfter cause.origin.seen r.1.token self.new.cell.opening.name self.new.cell.stamp event cause.pass step cause.origin.call)) }
         ensures replied { IfOk result (λ r. IfOk r.1.calls (λ receipts. HaveReplied r.1.token self.new.cell.opening.name receipts.items)) }
     {
@@ -192,7 +183,8 @@ impl<C: Core + Named> RecordedDesk<C> {
         match self.desk.take(alloc, event, pass) {
             Err(refusal) => {
                 let desk = &self.desk;
-                Err(refuse(history, desk, &mut self.writer, refusal, origin))
+                let cause = Cause { pass, origin };
+                Err(refuse(history, desk, &mut self.writer, refusal, cause))
             }
             Ok((receipt, calls)) => {
                 let cell = self.desk.cell();
@@ -200,7 +192,7 @@ impl<C: Core + Named> RecordedDesk<C> {
                     unreachable!()
                 };
                 let (call, grant) = origin.into_parts();
-                let entry = Entry::AtNode {
+                let entry = HistoryEntry::NodeStep {
                     name: cell.opening().name,
                     stamp: cell.stamp(),
                     event: noted,
@@ -209,7 +201,7 @@ impl<C: Core + Named> RecordedDesk<C> {
                     call,
                 };
                 let mut token = self.writer.add_with(history, &entry, grant);
-                let accepted = accepted_call(history, cell, &call, &mut token);
+                let accepted = accepted_call(history, cell, pass, &call, &mut token);
                 let calls = StepCalls {
                     calls,
                     accepted,

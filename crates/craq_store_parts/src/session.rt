@@ -18,7 +18,7 @@ use craq_ghost_history::{Named, Registrar};
 use craq_model::Ask;
 use craq_names::NodeName;
 use craq_seat::CallReceipt;
-use craq_store_history::{CallId, Entry, StoreRule};
+use craq_store_history::{CallId, HistoryEntry, StoreRule};
 use std::marker::Model;
 use std::snapshot::Snapshot;
 
@@ -76,7 +76,7 @@ impl<N: Named> Session<N> {
     /// Opens the session of a new client. None: 2^64 - 1 were opened.
     pub fn open(
         history: &StoreHistory<N>,
-        registrar: &mut Registrar<Entry, StoreRule, N>,
+        registrar: &mut Registrar<HistoryEntry, StoreRule, N>,
     ) -> Option<Self>
         ensures opened { IfSome result (λ s. (s.client ≡ registrar.old.next) × (s.next ≡ 0) × (s.seen ≡ [])) }
         ensures next { IfSome result (λ s. registrar.new.next ≡ registrar.old.next + 1) }
@@ -110,7 +110,7 @@ impl<N: Named> Session<N> {
             client: self.client,
             number: self.next,
         };
-        let entry = Entry::Called {
+        let entry = HistoryEntry::ClientCall {
             call,
             name,
             ask: Snapshot::of(ask),
@@ -150,7 +150,7 @@ impl<N: Named> Session<N> {
         ensures client { (self.new.client ≡ self.old.client) × (self.new.next ≡ self.old.next) }
     {
         let (call, grant) = made.into_parts();
-        let entry = Entry::Withdrawn { call };
+        let entry = HistoryEntry::CallTakenBack { call };
         drop(self.writer.add_with(history, &entry, grant));
     }
 
@@ -164,7 +164,7 @@ impl<N: Named> Session<N> {
         name: NodeName,
     ) -> Option<CallReceipt>
         ensures receipt { IfSome result (λ r. r ≡ answered) }
-        ensures accepted { IfSome result (λ r. HasAccepted self.new.seen name call r.call.ticket) }
+        ensures accepted { IfSome result (λ r. HasAccepted self.new.seen name call r.call) }
         ensures replied { IfSome result (λ r. HasReplied self.new.seen name r) }
         ensures history { IfSome result (λ r. IsHistory self.new.seen) }
         ensures later { IsPrefix self.old.seen self.new.seen }

@@ -10,7 +10,7 @@ use Rattle.craq_node.specs.Represented.{CanOpen}
 use Rattle.craq_seat.specs.declared.journal.Record.{Record}
 use Rattle.craq_seat.specs.Cells.{Celled, opened}
 use Rattle.craq_causality.specs.Authors.{first_of}
-use Rattle.craq_store_history.specs.declared.entry.Entry.{Entry}
+use Rattle.craq_store_history.specs.declared.entry.HistoryEntry.{HistoryEntry}
 use Rattle.craq_store_history.specs.Entries.{members_in}
 use Rattle.craq_store_parts.specs.Recorded.{CanBegin, IsUnjoined}
 
@@ -26,7 +26,7 @@ opened_empty true journal is = subst (λ o. IfSome o (λ (rs : List (Record Even
 opened_empty false journal is = subst (λ o. IfSome o (λ (rs : List (Record Event)). rs ≡ [])) (sym is) tt
 
 -- a first member may begin after the opening of its chain
-pub begins : {C : Type 0} (represents : C → Plain → Type 0) (name : NodeName) (config : Config) (log : List Entry) (cell : Celled C Event) (stamp : ℕ) (journal : Bool)
+pub begins : {C : Type 0} (represents : C → Plain → Type 0) (name : NodeName) (config : Config) (log : List HistoryEntry) (cell : Celled C Event) (stamp : ℕ) (journal : Bool)
     → CanOpen name (Some config) → members_in name.chain log ≡ Some config.members → cell ≡ opened (record { name = name; config = Some config; stamp = stamp }) journal cell.inside → represents cell.inside (opening_member name config.members) → CanBegin represents log cell
 begins represents name config log cell stamp journal can is opens stands =
     let named : cell.opening.name ≡ name = ap (λ c. c.opening.name) opens in

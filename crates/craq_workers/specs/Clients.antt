@@ -5,7 +5,7 @@ use Rattle.craq_names.specs.declared.refusal.Refusal.{Refusal}
 use Rattle.craq_names.specs.declared.refusal.Refusal.TheVariants.{UnknownChain}
 use Rattle.craq_completions.specs.Refused.{CanRefuse}
 use Rattle.craq_model.specs.declared.ask.Ask.{Ask}
-use Rattle.craq_store_history.specs.declared.entry.Entry.{Entry}
+use Rattle.craq_store_history.specs.declared.entry.HistoryEntry.{HistoryEntry}
 
 -- the number of chains of the client's store, with ids from 0; the largest stamp that the client has seen; the number of its session;
 -- the number of calls that it made, and the history that it has seen
@@ -14,7 +14,7 @@ pub record Asker : Type 0 where
   pub pass : ℕ
   pub client : ℕ
   pub made : ℕ
-  pub seen : List Entry
+  pub seen : List HistoryEntry
 
 -- the client made one call more; or none, where it was refused first
 abbrev pub MakesOne : {X : Type 0} → ℕ → Result X Refusal → ℕ → Type 0

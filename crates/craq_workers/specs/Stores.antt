@@ -17,11 +17,13 @@ abbrev pub masters_of : ℕ → List Chain → List Mastered
 masters_of id [] = []
 masters_of id (chain ∷ chains) = opened_master id chain.1 ∷ masters_of (id + 1) chains
 
--- the names of a store's chains and their masters as they were opened, by id, and whether its cells keep journals
+-- the names of a store's chains and their masters as they were opened, by id; whether its cells keep journals, and whether each chain has
+-- a thread of its own
 pub record Stored : Type 0 where
   pub names : List (List ℕ)
   pub masters : List Mastered
   pub journals : Bool
+  pub chain_threads : Bool
 
 -- the store has the chain, and keeps journals
 abbrev pub HasJournals : Stored → ℕ → Type 0

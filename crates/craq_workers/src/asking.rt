@@ -13,7 +13,7 @@ use crate::client::{finish_call, give_up_call, make_call};
 use crate::store::Store;
 use craq_ghost_history::Named;
 use craq_model::Ask;
-use craq_names::{NodeName, Refusal};
+use craq_names::{NodeName, Pass, Refusal};
 use craq_node::Core;
 use craq_running_node::{CallRefusal, Gate};
 use craq_seat::CallReceipt;
@@ -78,7 +78,7 @@ impl<C: Core + Named, G: Gate> Store<C, G> {
         node: &NodeName,
     ) -> Result<CallReceipt, Refusal>
         ensures receipt { IfOk result (λ r. r ≡ answered) }
-        ensures accepted { IfOk result (λ r. HasAccepted session.new.seen node.now call r.call.ticket) }
+        ensures accepted { IfOk result (λ r. HasAccepted session.new.seen node.now call r.call) }
         ensures replied { IfOk result (λ r. HasReplied session.new.seen node.now r) }
         ensures history { IfOk result (λ r. IsHistory session.new.seen) }
         ensures client { (session.new.client ≡ session.old.client) × (session.new.next ≡ session.old.next) }
@@ -88,25 +88,26 @@ impl<C: Core + Named, G: Gate> Store<C, G> {
         finish_call(&self.shared.history, session, answered, call, node)
     }
 
-    /// Gives up a call of the session that was refused. Returns its refusal, which then says that no
-    /// step accepts the call, or leaves that open: `Stopped`, `Memory` or `Closed`. Another refusal
-    /// that does not give this call back becomes `Closed`. The session has then seen a moment at
-    /// which the call's node refuses it by its rules, unless the refusal is one of these three or
-    /// `WrongNode`.
+    /// Gives up a call of the session, submitted with this pass, that was refused. Returns its
+    /// refusal, which then says that no step accepts the call, or leaves that open: `Stopped`,
+    /// `Memory` or `Closed`. Another refusal that does not give this call back becomes `Closed`. The
+    /// session has then seen a moment at which the call's node refuses it with this pass by its
+    /// rules, unless the refusal is one of these three or `WrongNode`.
     pub fn give_up_ask(
         &self,
         session: &mut Session<C>,
         refusal: CallRefusal<C>,
         call: CallId,
+        pass: Pass,
     ) -> Refusal
         requires { call.client ≡ session.old.client }
         ensures reported { (result ≡ refusal) ⊎ (result ≡ Refusal.Closed) }
         ensures kept { LeavesOpen refusal → result ≡ refusal }
-        ensures given_up { LeavesOpen result ⊎ IsGivenUp session.new.seen call result }
+        ensures given_up { LeavesOpen result ⊎ IsGivenUp session.new.seen call pass result }
         ensures client { (session.new.client ≡ session.old.client) × (session.new.next ≡ session.old.next) }
         ensures later { IsPrefix session.old.seen session.new.seen }
     {
-        give_up_call(&self.shared.history, session, refusal, call)
+        give_up_call(&self.shared.history, session, refusal, call, pass)
     }
 
     /// Returns a token that has seen as much of the store's history as the session, for `stop_after`

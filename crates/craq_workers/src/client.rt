@@ -1,12 +1,12 @@
 //! `Client`: blocking calls of a store from any thread, one at a time, with the pass that they
 //! raise and the history that they have seen.
-ghost use Rattle.std.specs.Prelude.{◌≡◌, ◌<◌, ◌⊎◌, ◌≤◌, ◌+◌, ◌↔◌, List, Some, max, Err, IfErr, IfOk, Ok, OnErr, length};
+ghost use Rattle.std.specs.Prelude.{◌≡◌, ◌<◌, ◌⊎◌, ◌≤◌, ◌+◌, ◌↔◌, List, Some, max, Err, IfErr, IfOk, IfSome, Ok, OnErr, length};
 ghost use mathlib.Core.List.{IsPrefix};
 ghost use Rattle.craq_names.specs.Limits.{greatest};
 ghost use Rattle.craq_ghost_history.specs.Histories.{AreComparable};
 ghost use Rattle.craq_completions.specs.Calls.{IsCallOf};
 ghost use Rattle.craq_completions.specs.Refused.{CanRefuse};
-ghost use Rattle.craq_store_history.specs.declared.entry.Entry.{Entry};
+ghost use Rattle.craq_store_history.specs.declared.entry.HistoryEntry.{HistoryEntry};
 ghost use Rattle.craq_store_history.specs.Chains.{IsHistory};
 ghost use Rattle.craq_store_parts.specs.Recorded.{HasAccepted, HasReplied};
 ghost use Rattle.craq_store_parts.specs.Sent.{IsMade};
@@ -24,7 +24,7 @@ use craq_running_chain::{Reach, Shared, possible_refusal};
 use craq_running_node::{Asked, CallRefusal, Destination, Gate, Outcome};
 use craq_seat::CallReceipt;
 use craq_store_history::CallId;
-use craq_store_parts::{AnsweredCall, MadeAsk, Session, StoreHistory, StoreToken};
+use craq_store_parts::{AnsweredCall, MadeAsk, RefusalMoment, Session, StoreHistory, StoreToken};
 use std::alloc::Global;
 use std::marker::Model;
 use std::sync::{Arc, Wait};
@@ -105,7 +105,8 @@ impl<C: Core + Named, G: Gate> Client<C, G> {
     /// After `Stopped`, `Memory` or `Closed` an update may or may not have taken effect. It may be
     /// sent again with its number. After any other refusal no step was taken for the request, and
     /// none will be: the store's history shows it (`IsUntaken`). It shows also a moment after the
-    /// call at which the node refuses the request by its rules, unless the refusal is `WrongNode`.
+    /// call at which the node refuses the request with this pass by its rules, unless the refusal is
+    /// `WrongNode`.
     pub fn call<R: Wait>(
         &mut self,
         rt: &R,
@@ -122,7 +123,7 @@ impl<C: Core + Named, G: Gate> Client<C, G> {
         ensures once { MakesOne self.old.made result self.new.made }
         ensures later { IsPrefix self.old.seen self.new.seen }
         ensures run { IfOk result (λ r. IsWitnessed self.old.client self.old.seen node ask r.0 r.1 self.new.seen) }
-        ensures untaken { IfErr result (λ e. IsUntaken self.old.client self.old.seen node ask self.new.seen e) }
+        ensures untaken { IfErr result (λ e. IsUntaken self.old.client self.old.seen node ask self.old.pass self.new.seen e) }
     {
         let called = self.wait_for(rt, &node, &ask);
         drop(ask);
@@ -178,7 +179,7 @@ impl<C: Core + Named, G: Gate> Client<C, G> {
         ensures once { MakesOne self.old.made result self.new.made }
         ensures later { IsPrefix self.old.seen self.new.seen }
         ensures run { IfOk result (λ r. IsWitnessed self.old.client self.old.seen node.now ask.now r.0 r.1 self.new.seen) }
-        ensures untaken { IfErr result (λ e. IsUntaken self.old.client self.old.seen node.now ask.now self.new.seen e) }
+        ensures untaken { IfErr result (λ e. IsUntaken self.old.client self.old.seen node.now ask.now self.old.pass self.new.seen e) }
     {
         self.shared.chain(node.chain)?;
         let (call, made) = self.make(node, ask)?;
@@ -221,7 +222,7 @@ impl<C: Core + Named, G: Gate> Client<C, G> {
         node: &NodeName,
     ) -> Result<CallReceipt, Refusal>
         ensures receipt { IfOk result (λ r. r ≡ answered) }
-        ensures accepted { IfOk result (λ r. HasAccepted self.new.seen node.now call r.call.ticket) }
+        ensures accepted { IfOk result (λ r. HasAccepted self.new.seen node.now call r.call) }
         ensures replied { IfOk result (λ r. HasReplied self.new.seen node.now r) }
         ensures history { IfOk result (λ r. IsHistory self.new.seen) }
         ensures same { self.new ≡ record self.old { seen = self.new.seen } }
@@ -232,16 +233,16 @@ impl<C: Core + Named, G: Gate> Client<C, G> {
         finish_call(&shared.history, &mut self.session, answered, call, node)
     }
 
-    /// Gives up a call that was refused, as `give_up_call` does.
+    /// Gives up a call with the client's pass that was refused, as `give_up_call` does.
     fn give_up(&mut self, refusal: CallRefusal<C>, call: CallId) -> Refusal
         requires { call.client ≡ self.old.client }
         ensures reported { (result ≡ refusal) ⊎ (result ≡ Refusal.Closed) }
-        ensures given_up { LeavesOpen result ⊎ IsGivenUp self.new.seen call result }
+        ensures given_up { LeavesOpen result ⊎ IsGivenUp self.new.seen call self.old.pass result }
         ensures same { self.new ≡ record self.old { seen = self.new.seen } }
         ensures later { IsPrefix self.old.seen self.new.seen }
     {
         let shared = &self.shared;
-        give_up_call(&shared.history, &mut self.session, refusal, call)
+        give_up_call(&shared.history, &mut self.session, refusal, call, self.pass)
     }
 
     /// Returns the reply to a request, with a new completion queue to wait at.
@@ -333,7 +334,7 @@ pub(crate) fn finish_call<N: Named>(
     node: &NodeName,
 ) -> Result<CallReceipt, Refusal>
     ensures receipt { IfOk result (λ r. r ≡ answered) }
-    ensures accepted { IfOk result (λ r. HasAccepted session.new.seen node.now call r.call.ticket) }
+    ensures accepted { IfOk result (λ r. HasAccepted session.new.seen node.now call r.call) }
     ensures replied { IfOk result (λ r. HasReplied session.new.seen node.now r) }
     ensures history { IfOk result (λ r. IsHistory session.new.seen) }
     ensures client { (session.new.client ≡ session.old.client) × (session.new.next ≡ session.old.next) }
@@ -346,19 +347,21 @@ pub(crate) fn finish_call<N: Named>(
     }
 }
 
-/// Gives up a call that was refused. If the refusal gives the call back, the history says from then
-/// on that no step accepts it, and at which moment its node refused it. Else the refusal has to
-/// leave open whether a step did: it becomes `Closed` unless it is `Stopped`, `Memory` or `Closed`.
+/// Gives up a call with this pass that was refused. If the refusal gives the call back, the history
+/// says from then on that no step accepts it, and at which moment its node refused it. Else the
+/// refusal has to leave open whether a step did: it becomes `Closed` unless it is `Stopped`,
+/// `Memory` or `Closed`.
 pub(crate) fn give_up_call<N: Named>(
     history: &StoreHistory<N>,
     session: &mut Session<N>,
     refusal: CallRefusal<N>,
     call: CallId,
+    pass: Pass,
 ) -> Refusal
     requires { call.client ≡ session.old.client }
     ensures reported { (result ≡ refusal) ⊎ (result ≡ Refusal.Closed) }
     ensures kept { LeavesOpen refusal → result ≡ refusal }
-    ensures given_up { LeavesOpen result ⊎ IsGivenUp session.new.seen call result }
+    ensures given_up { LeavesOpen result ⊎ IsGivenUp session.new.seen call pass result }
     ensures client { (session.new.client ≡ session.old.client) × (session.new.next ≡ session.old.next) }
     ensures later { IsPrefix session.old.seen session.new.seen }
 {
@@ -372,9 +375,17 @@ pub(crate) fn give_up_call<N: Named>(
         drop(moment);
         return open_refusal(refusal);
     }
+    let moment = moment_of_pass(moment, pass);
     let refusal = see_moment(history, session, refusal, moment);
     session.take_back(history, made);
     refusal
+}
+
+/// Returns the moment at which a node refused a call, if the node did so with this pass.
+fn moment_of_pass<N: Named>(moment: Option<RefusalMoment<N>>, pass: Pass) -> Option<StoreToken<N>>
+    ensures { IfSome result (λ log. moment ≡ Some (record { pass = pass; seen = log })) }
+{
+    moment?.of_pass(pass)
 }
 
 /// Sees the moment at which a node refused a call. Returns the refusal. Without a moment it becomes
@@ -385,7 +396,7 @@ fn see_moment<N: Named>(
     refusal: Refusal,
     moment: Option<StoreToken<N>>,
 ) -> Refusal
-    ensures seen { IsMissed result ⊎ ((log : List Entry) × (moment ≡ Some log) × IsPrefix log session.new.seen × (result ≡ refusal)) }
+    ensures seen { IsMissed result ⊎ ((log : List HistoryEntry) × (moment ≡ Some log) × IsPrefix log session.new.seen × (result ≡ refusal)) }
     ensures reported { (result ≡ refusal) ⊎ (result ≡ Refusal.Closed) }
     ensures kept { LeavesOpen refusal → result ≡ refusal }
     ensures client { (session.new.client ≡ session.old.client) × (session.new.next ≡ session.old.next) }

@@ -1,10 +1,10 @@
 //! `open_history`: opens the history of a store, before the program that starts the store names it.
 use craq_ghost_history::Opened;
-use craq_store_history::{Entry, StoreRule};
+use craq_store_history::{HistoryEntry, StoreRule};
 use std::alloc::{AllocError, Global};
 
 /// The history of a store before its first entry. It exists in the proofs alone, except one word.
-pub type OpenedHistory = Opened<Entry, StoreRule>;
+pub type OpenedHistory = Opened<HistoryEntry, StoreRule>;
 
 /// Opens the history of a store, for `Store::start`. Fails only when out of memory.
 ///

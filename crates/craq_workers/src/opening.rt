@@ -23,7 +23,7 @@ use craq_place::{MOST_CHAINS, Plan};
 use craq_running_chain::{Chain, Open, Rest, RoutingTable, WakeUp, Worker, master_of};
 use craq_running_node::{Removed, Route, RunningNode, open_inbox};
 use craq_seat::{BookCell, Cell, Desk};
-use craq_store_history::{Entry, StoreRule};
+use craq_store_history::{HistoryEntry, StoreRule};
 use craq_store_parts::{RecordedDesk, StoreHistory, StoreToken, StoreWriter};
 use crossbeam_channel::Sender;
 use std::alloc::{AllocError, Global};
@@ -60,7 +60,7 @@ pub(crate) struct Opener<'a, R, N: Named> {
     pub form: Form,
     pub history: &'a StoreHistory<N>,
     /// The registrar of the history's rights.
-    pub registrar: &'a Mutex<Registrar<Entry, StoreRule, N>>,
+    pub registrar: &'a Mutex<Registrar<HistoryEntry, StoreRule, N>>,
     /// The sender that each worker holds as long as it runs.
     pub alive: &'a Sender<()>,
 }

@@ -12,6 +12,8 @@ ghost use Rattle.craq_seat.specs.Kept.{IsKept};
 ghost use Rattle.craq_seat.specs.Taken.{TakesEvent, TakesTransition};
 ghost use Rattle.craq_store_parts.specs.Recorded.{IsUnjoined};
 ghost use Rattle.craq_store_parts.specs.Witnessed.{IsWitnessedJoin, IsWitnessedOrder, IsWitnessedRemoval, IsWitnessedStop};
+ghost use Rattle.craq_running_chain.specs.Asks.{IsPut};
+ghost use Rattle.craq_running_node.specs.Replies.{in_hand};
 ghost use Rattle.craq_workers.specs.Clients.{RefusesAsk};
 ghost use Rattle.craq_workers.specs.Moves.{CanJoin, CanRemove, CanStop, IsKeptIn};
 ghost use Rattle.craq_workers.specs.Posts.{node_posts};
@@ -33,7 +35,7 @@ use craq_running_node::{
     Gate, OwnAsk, OwnReply, Route, RunningNode, dismiss, refuse_callers, refuse_own,
 };
 use craq_seat::{BookCell, BookEvent, Cell, Desk, Receipt};
-use craq_store_history::{Entry, StoreRule};
+use craq_store_history::{HistoryEntry, StoreRule};
 use craq_store_parts::{
     Cause, JoinedNode, Messages, Origin, RecordedDesk, Session, StepCalls, StoppedNode,
     StoreHistory, StoreToken, StoreWriter, open_joined,
@@ -57,8 +59,8 @@ pub struct ChainStatus {
 /// node, and one for each chain's master.
 ///
 /// It has no drop: `close` ends it. A contract sees the names of its chains and their masters as
-/// they were opened, by id, and whether it keeps journals. It does not see what is behind locks and
-/// channels.
+/// they were opened, by id, whether it keeps journals, and whether each chain has a thread. It does
+/// not see what is behind locks and channels.
 pub struct Store<C: Core + Named, G: Gate> {
     pub(crate) alloc: Global,
     form: Form,
@@ -74,7 +76,7 @@ impl<C: Core + Named, G: Gate> Model for Store<C, G> {
 
     ghost Value = { Stored };
 
-    ghost view = { λ s. record { names = map (λ c. string_bytes c.name) s.shared.value.chains.items; masters = map (λ c. opened_master c.id c.first.members) s.shared.value.chains.items; journals = s.form.journal } };
+    ghost view = { λ s. record { names = map (λ c. string_bytes c.name) s.shared.value.chains.items; masters = map (λ c. opened_master c.id c.first.members) s.shared.value.chains.items; journals = s.form.journal; chain_threads = s.shared.value.chain_threads } };
 }
 
 /// Returns the status of a chain. Fails when out of memory, and if the lock holds the master of
@@ -353,7 +355,8 @@ impl<C: Core + Named, G: Gate> Store<C, G> {
     /// of a refusal whether a step may have accepted the call, and when the node refused it.
     ///
     /// Refused as `Client::call` is, and then no completion comes: with `UnknownChain` exactly if
-    /// the store has no such chain.
+    /// the store has no such chain. A reply that comes at once is of a node's step of this request
+    /// (`IsPut`).
     pub fn submit<R: Wait>(
         &self,
         rt: &R,
@@ -364,6 +367,7 @@ impl<C: Core + Named, G: Gate> Store<C, G> {
         requires { own.made.ask ≡ ask.now }
         ensures unknown { (result ≡ Err Refusal.UnknownChain) ↔ (length self.now.names ≤ own.entry.made.name.chain) }
         ensures refused { IfErr result (λ e. RefusesAsk (length self.now.names) own.entry.made.name ask.now e) }
+        ensures put { (result ≡ Err Refusal.UnknownChain) ⊎ IsPut C.represents self.now.chain_threads own.entry.made.name ask.now own.entry.pass own.entry.at.token (in_hand result) }
     {
         let chain = match self.shared.chain(own.made.name().chain) {
             Ok(chain) => chain,
@@ -423,7 +427,7 @@ impl<C: Core + Named + Send + 'static, G: Gate + Send + Sync + 'static> Store<C,
     pub fn start<R: Threads + Wait + Copy + Send + 'static>(
         rt: R,
         alloc: Global,
-        opened: Opened<Entry, StoreRule>,
+        opened: Opened<HistoryEntry, StoreRule>,
         plan: &Plan,
         gate: G,
         journal: bool,

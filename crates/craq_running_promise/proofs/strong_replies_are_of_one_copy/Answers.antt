@@ -1,7 +1,7 @@
 use Rattle.craq_running_promise.proofs.Asked.{was_asked}
 use Rattle.craq_running_promise.proofs.Copies.{by_mode, no_older, one_copy, one_reply, only_grows, ordered}
 use Rattle.craq_running_promise.proofs.Growing.{grows}
-use Rattle.craq_running_promise.proofs.Standing.{in_one}
+use Rattle.craq_running_promise.proofs.Standing.{accepted_in, in_one}
 use Rattle.craq_running_promise.proofs.strong_replies_are_of_one_copy.Goals as goal
 
 pub returns-clause-one_copy : goal.returns-clause-one_copy
@@ -27,6 +27,9 @@ returns-clause-grows c = λ chain members log more h k p. grows chain members lo
 
 pub returns-clause-asked : goal.returns-clause-asked
 returns-clause-asked c = λ chain members log update h there. was_asked chain members log update h there
+
+pub returns-clause-accepted : goal.returns-clause-accepted
+returns-clause-accepted c = λ client o log w p. accepted_in client o log w p
 
 pub returns-clause-together : goal.returns-clause-together
 returns-clause-together c = λ client other o next w v p. in_one client other o.old o.new next.old next.new o.node next.node o.ask next.ask o.answer next.answer o.receipt next.receipt w v p

@@ -4,7 +4,7 @@ use Rattle.std.proofs.lemmas.Result.{err_from_is_err_and}
 use Rattle.std.specs.Io.KnownBytes.{Appends}
 use Rattle.craq_front.specs.Serving.{Served, neither, reader, writer}
 use Rattle.craq_front.proofs.Known.{consumes_none, consumes_then, consumes_end, keeps_then, appends_none, appends_then}
-use Rattle.craq_front.proofs.Sessions.{served_none, write_failed, batch_refused, read_failed, no_room, ended_so, batch_served, served_on, served_further}
+use Rattle.craq_front.proofs.Conversations.{served_none, write_failed, batch_refused, read_failed, no_room, ended_so, batch_served, served_on, served_further}
 use Rattle.craq_front.proofs.serving.serve.Goals.{then-is_drained+in_ok-count+else-count-eq0, else-is_drained}
 use Rattle.craq_front.proofs.serving.serve.Goals as goal
 

@@ -20,7 +20,7 @@ returns-in-Ok-clause-own g c =
     let last = c.take.new.self.cell.last in
     let accepted = c.in-Ok.done.accepted in
     let own : c.last_ticket.result ≡ ticket_of last = c.last_ticket.ensures ∙ ap ticket_of (c.last.ensures.value ∙ ap (λ x. x.last) c.cell-in-Ok.ensures) in
-    let its : ticket_in accepted ≡ ticket_of last = ticket_accepted c.take.new.self.cell.opening.name c.into_parts-ask.result.1.call last accepted c.in-Ok.ensures.moved (rw c.called.ensures at c.in-Ok.ensures.accepted) in
+    let its : ticket_in accepted ≡ ticket_of last = ticket_accepted c.take.new.self.cell.opening.name c.take.new.self.cell.stamp c.args.asked.1 c.into_parts-ask.result.1.call last accepted c.in-Ok.ensures.moved (rw c.called.ensures at c.in-Ok.ensures.accepted) in
     says_it c.last_ticket.result (ticket_in accepted) c.in-Ok.done.calls (in_hand c.finish-reply.result) (own ∙ sym its) c.finish-reply.ensures.own
 
 pub returns-in-Ok-clause-taken : goal.returns-in-Ok-clause-taken
@@ -36,7 +36,7 @@ returns-in-Ok-clause-taken g c =
     let after = c.finish-reply.new.replies in
     let accepted = c.in-Ok.done.accepted in
     let own : c.last_ticket.result ≡ ticket_of took.cell.last = c.last_ticket.ensures ∙ ap ticket_of (c.last.ensures.value ∙ ap (λ x. x.last) c.cell-in-Ok.ensures) in
-    let its : ticket_in accepted ≡ ticket_of took.cell.last = ticket_accepted took.cell.opening.name c.into_parts-ask.result.1.call took.cell.last accepted c.in-Ok.ensures.moved (rw c.called.ensures at c.in-Ok.ensures.accepted) in
+    let its : ticket_in accepted ≡ ticket_of took.cell.last = ticket_accepted took.cell.opening.name took.cell.stamp pass c.into_parts-ask.result.1.call took.cell.last accepted c.in-Ok.ensures.moved (rw c.called.ensures at c.in-Ok.ensures.accepted) in
     let same : c.last_ticket.result ≡ ticket_in accepted = own ∙ sym its in
     let said = said_by calls took.cell.last c.last_ticket.result in
     let others = c.finish-reply.ensures.others ∙ ap (λ (cs : List (Caller Token)). waiting_after cs said) c.reserve.ensures.items in

@@ -10,7 +10,7 @@ use Rattle.craq_store_parts.specs.Witnessed.{IsWitnessedOrder}
 use Rattle.craq_store_parts.proofs.Beginning.{Ordered, book_may, book_own, book_recorded, book_witnessed, ordered}
 use Rattle.craq_store_parts.proofs.Recording.{never, same_some}
 use Rattle.craq_store_parts.proofs.recorded_book.RecordedBook.take.Goals as goal
-use Rattle.craq_store_parts.proofs.recorded_book.RecordedBook.take.Goals.{in-Opened-1, in-Called-1, in-AtNode-1, in-AtMaster-1, in-Withdrawn-1}
+use Rattle.craq_store_parts.proofs.recorded_book.RecordedBook.take.Goals.{in-ChainOpened-1, in-ClientCall-1, in-NodeStep-1, in-MasterStep-1, in-CallTakenBack-1}
 
 pub unreachable-requires : goal.unreachable-requires
 unreachable-requires g c =
@@ -53,11 +53,11 @@ returns-in-Some-clause-opening g c =
     subst (λ (e : BookEvent). Ordered c.self.inside.cell c.take.new.self e) c.copy_of.ensures (ordered c.self.inside.cell c.take.new.self c.copy_of.result c.args.pass c.in-Ok.receipt c.in-Ok.ensures.step) in
     let same : c.take.new.self.opening ≡ c.args.self.now.opening = t.opening ∙ ap (λ x. x.opening) c.self.view_is in
     elim c.match-entry.branch [
-      | in-Opened-1 w ↦ rw w.self-is same
-      | in-Called-1 w ↦ rw w.self-is same
-      | in-AtNode-1 w ↦ rw w.self-is same
-      | in-AtMaster-1 w ↦ rw w.self-is same
-      | in-Withdrawn-1 w ↦ rw w.self-is same
+      | in-ChainOpened-1 w ↦ rw w.self-is same
+      | in-ClientCall-1 w ↦ rw w.self-is same
+      | in-NodeStep-1 w ↦ rw w.self-is same
+      | in-MasterStep-1 w ↦ rw w.self-is same
+      | in-CallTakenBack-1 w ↦ rw w.self-is same
     ]
 
 pub returns-in-Some-clause-ordered : goal.returns-in-Some-clause-ordered

@@ -1,7 +1,7 @@
 use Rattle.std.proofs.Common.{List, subst, sym}
 use mathlib.Core.List.{IsPrefix}
 use Rattle.craq_seat.specs.Calls.{Desked}
-use Rattle.craq_store_history.specs.declared.entry.Entry.{Entry}
+use Rattle.craq_store_history.specs.declared.entry.HistoryEntry.{HistoryEntry}
 use Rattle.craq_store_parts.specs.Recorded.{HadLinesIn, HasLinesIn}
 use Rattle.craq_store_parts.proofs.Between.{lines_seen}
 use Rattle.craq_store_parts.proofs.Refusing.{recorded_later}
@@ -16,5 +16,5 @@ returns-clause-lines g c =
     let d : Desked g.row.C.Denot = c.self.inside.desk in
     let later = recorded_later g.C.Core.represents d c.self.inside.writer c.learn.new.self c.self.invariant c.learn.ensures.author c.learn.ensures.own c.learn.ensures.this in
     let had : HadLinesIn c.args.token.now d.cell = subst (λ (x : Desked g.row.C.Denot). HadLinesIn c.args.token.now x.cell) (sym c.self.view_is) c.requires in
-    let that : IsPrefix c.args.token.now c.learn.new.self.seen = subst (λ (log : List Entry). IsPrefix log c.learn.new.self.seen) c.again-seen.ensures.copy c.learn.ensures.that in
+    let that : IsPrefix c.args.token.now c.learn.new.self.seen = subst (λ (log : List HistoryEntry). IsPrefix log c.learn.new.self.seen) c.again-seen.ensures.copy c.learn.ensures.that in
     subst (λ (x : Desked g.row.C.Denot). HasLinesIn c.args.token.now x.cell) c.self.view_is (lines_seen c.args.token.now c.learn.new.self.seen d.cell had that later.journal)

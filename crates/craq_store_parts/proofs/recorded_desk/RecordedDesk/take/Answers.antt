@@ -10,7 +10,7 @@ use Rattle.craq_store_parts.specs.Recorded.{MayHappen}
 use Rattle.craq_store_parts.proofs.Recording.{Took, desk_after, desk_may, desk_own, desk_recorded, desk_taken, last_replied, never, same_some, took}
 use Rattle.craq_store_parts.proofs.Refusing.{accepts_still, refused_recorded, refuses_at}
 use Rattle.craq_store_parts.proofs.recorded_desk.RecordedDesk.take.Goals as goal
-use Rattle.craq_store_parts.proofs.recorded_desk.RecordedDesk.take.Goals.{in-Opened-1, in-Called-1, in-AtNode-1, in-AtMaster-1, in-Withdrawn-1}
+use Rattle.craq_store_parts.proofs.recorded_desk.RecordedDesk.take.Goals.{in-ChainOpened-1, in-ClientCall-1, in-NodeStep-1, in-MasterStep-1, in-CallTakenBack-1}
 
 pub refuse-requires-clause-recorded : goal.refuse-requires-clause-recorded
 refuse-requires-clause-recorded g c =
@@ -74,7 +74,7 @@ accepted_call-accepted-requires g c =
     let says : c.of.result.value ≡ t.step = c.of.ensures ∙ same_some (c.in-Some.ensures.value ∙ (ap (λ x. x.last) c.cell-cell.ensures ∙ t.last)) in
     let may : MayHappen c.args.cause.origin.seen old.cell.opening.name c.args.event c.args.cause.origin.call =
     subst (λ (d : Desked g.row.C.Denot). MayHappen c.args.cause.origin.seen d.cell.opening.name c.args.event c.args.cause.origin.call) (sym c.self.view_is) c.requires.may in
-    (c.args.event, c.args.cause.pass, rw (c.cell-cell.ensures, c.into_parts-call.ensures.call) (desk_taken g.C.Core.represents old new.cell c.self.inside.writer c.args.cause.origin.seen c.args.event c.of-noted.result c.args.cause.pass c.of.result c.args.cause.origin.call c.opening.result.now.name c.stamp.result c.self.invariant t named stamped c.of-noted.ensures says may c.keep_event_limits.ensures c.add_with-token.new.self.seen c.add_with-token.result (rw (c.into_parts-call.ensures.seen, c.into_parts-call.ensures.call) at c.add_with-token.ensures.added) c.add_with-token.ensures.token))
+    (c.args.event, rw (c.cell-cell.ensures, c.into_parts-call.ensures.call) (desk_taken g.C.Core.represents old new.cell c.self.inside.writer c.args.cause.origin.seen c.args.event c.of-noted.result c.args.cause.pass c.of.result c.args.cause.origin.call c.opening.result.now.name c.stamp.result c.self.invariant t named stamped c.of-noted.ensures says may c.keep_event_limits.ensures c.add_with-token.new.self.seen c.add_with-token.result (rw (c.into_parts-call.ensures.seen, c.into_parts-call.ensures.call) at c.add_with-token.ensures.added) c.add_with-token.ensures.token))
 
 pub invariant_of-self-in-Some-3 : goal.invariant_of-self-in-Some-3
 invariant_of-self-in-Some-3 g c =
@@ -95,11 +95,11 @@ returns-in-Some-clause-step g c =
     subst (λ (d : Desked g.row.C.Denot). TakesEvent g.C.Core.represents c.take.new.self.cell (with_inside d.cell p) c.args.event c.args.cause.pass (Ok c.in-Ok.receipt)) c.self.view_is
     (c.in-Ok.ensures.step p (subst (λ (d : Desked g.row.C.Denot). g.C.Core.represents d.cell.inside p) (sym c.self.view_is) h)) in
     elim c.match-entry.branch [
-      | in-Opened-1 w ↦ rw w.self-is same
-      | in-Called-1 w ↦ rw w.self-is same
-      | in-AtNode-1 w ↦ rw w.self-is same
-      | in-AtMaster-1 w ↦ rw w.self-is same
-      | in-Withdrawn-1 w ↦ rw w.self-is same
+      | in-ChainOpened-1 w ↦ rw w.self-is same
+      | in-ClientCall-1 w ↦ rw w.self-is same
+      | in-NodeStep-1 w ↦ rw w.self-is same
+      | in-MasterStep-1 w ↦ rw w.self-is same
+      | in-CallTakenBack-1 w ↦ rw w.self-is same
     ]
 
 pub returns-in-Some-clause-opening : goal.returns-in-Some-clause-opening
@@ -110,11 +110,11 @@ returns-in-Some-clause-opening g c =
     took g.C.Core.represents old.cell new.cell c.self.invariant.node c.args.event c.args.cause.pass c.in-Ok.receipt (c.in-Ok.ensures.step c.self.invariant.node c.self.invariant.stands) in
     let same : new.cell.opening ≡ c.args.self.now.cell.opening = t.opening ∙ ap (λ x. x.cell.opening) c.self.view_is in
     elim c.match-entry.branch [
-      | in-Opened-1 w ↦ rw w.self-is same
-      | in-Called-1 w ↦ rw w.self-is same
-      | in-AtNode-1 w ↦ rw w.self-is same
-      | in-AtMaster-1 w ↦ rw w.self-is same
-      | in-Withdrawn-1 w ↦ rw w.self-is same
+      | in-ChainOpened-1 w ↦ rw w.self-is same
+      | in-ClientCall-1 w ↦ rw w.self-is same
+      | in-NodeStep-1 w ↦ rw w.self-is same
+      | in-MasterStep-1 w ↦ rw w.self-is same
+      | in-CallTakenBack-1 w ↦ rw w.self-is same
     ]
 
 pub returns-in-Some-clause-moved : goal.returns-in-Some-clause-moved
@@ -125,11 +125,11 @@ returns-in-Some-clause-moved g c =
     took g.C.Core.represents old.cell new.cell c.self.invariant.node c.args.event c.args.cause.pass c.in-Ok.receipt (c.in-Ok.ensures.step c.self.invariant.node c.self.invariant.stands) in
     let moved : IsSome new.cell.last = subst (λ (o : Option Step). IsSome o) (sym t.last) refl in
     elim c.match-entry.branch [
-      | in-Opened-1 w ↦ rw w.self-is moved
-      | in-Called-1 w ↦ rw w.self-is moved
-      | in-AtNode-1 w ↦ rw w.self-is moved
-      | in-AtMaster-1 w ↦ rw w.self-is moved
-      | in-Withdrawn-1 w ↦ rw w.self-is moved
+      | in-ChainOpened-1 w ↦ rw w.self-is moved
+      | in-ClientCall-1 w ↦ rw w.self-is moved
+      | in-NodeStep-1 w ↦ rw w.self-is moved
+      | in-MasterStep-1 w ↦ rw w.self-is moved
+      | in-CallTakenBack-1 w ↦ rw w.self-is moved
     ]
 
 pub returns-in-Some-clause-taken : goal.returns-in-Some-clause-taken
@@ -145,11 +145,11 @@ returns-in-Some-clause-taken g c =
     subst (λ (d : Desked g.row.C.Denot). MayHappen c.args.cause.origin.seen d.cell.opening.name c.args.event c.args.cause.origin.call) (sym c.self.view_is) c.requires.may in
     let taken = desk_after g.C.Core.represents old new.cell c.self.inside.writer c.args.cause.origin.seen c.args.event c.of-noted.result c.args.cause.pass c.of.result c.args.cause.origin.call c.opening.result.now.name c.stamp.result c.self.invariant t named stamped c.of-noted.ensures says may c.keep_event_limits.ensures c.add_with-token.new.self.seen c.accepted_call-accepted.new.token (rw (c.into_parts-call.ensures.seen, c.into_parts-call.ensures.call) at c.add_with-token.ensures.added) (c.accepted_call-accepted.ensures.same ∙ c.add_with-token.ensures.token) in
     elim c.match-entry.branch [
-      | in-Opened-1 w ↦ rw w.self-is taken
-      | in-Called-1 w ↦ rw w.self-is taken
-      | in-AtNode-1 w ↦ rw w.self-is taken
-      | in-AtMaster-1 w ↦ rw w.self-is taken
-      | in-Withdrawn-1 w ↦ rw w.self-is taken
+      | in-ChainOpened-1 w ↦ rw w.self-is taken
+      | in-ClientCall-1 w ↦ rw w.self-is taken
+      | in-NodeStep-1 w ↦ rw w.self-is taken
+      | in-MasterStep-1 w ↦ rw w.self-is taken
+      | in-CallTakenBack-1 w ↦ rw w.self-is taken
     ]
 
 pub returns-in-Some-clause-replied : goal.returns-in-Some-clause-replied
@@ -167,9 +167,9 @@ returns-in-Some-clause-replied g c =
     let replied =
     last_replied c.accepted_call-accepted.new.token new.cell c.args.event c.args.cause.pass c.args.cause.origin.call t.step t.last taken c.in-Ok.receipt c.in-Ok.ensures.receipt old.waiting new.waiting c.in-Ok.calls c.in-Ok.ensures.calls in
     elim c.match-entry.branch [
-      | in-Opened-1 w ↦ rw w.self-is replied
-      | in-Called-1 w ↦ rw w.self-is replied
-      | in-AtNode-1 w ↦ rw w.self-is replied
-      | in-AtMaster-1 w ↦ rw w.self-is replied
-      | in-Withdrawn-1 w ↦ rw w.self-is replied
+      | in-ChainOpened-1 w ↦ rw w.self-is replied
+      | in-ClientCall-1 w ↦ rw w.self-is replied
+      | in-NodeStep-1 w ↦ rw w.self-is replied
+      | in-MasterStep-1 w ↦ rw w.self-is replied
+      | in-CallTakenBack-1 w ↦ rw w.self-is replied
     ]

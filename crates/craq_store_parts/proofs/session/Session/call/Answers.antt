@@ -1,5 +1,5 @@
 use Rattle.std.proofs.Common.{◌≡◌, ◌+◌, ◌∙◌, ℕ, [], List, ap, sym, subst}
-use Rattle.craq_store_history.specs.declared.entry.Entry.{Entry}
+use Rattle.craq_store_history.specs.declared.entry.HistoryEntry.{HistoryEntry}
 use Rattle.craq_store_history.specs.Steps.{MayMake}
 use Rattle.craq_store_history.proofs.Adding.{called_may}
 use Rattle.craq_store_parts.proofs.Sessions.{fresh_after}
@@ -17,6 +17,6 @@ invariant_of-self g c =
     record {
       author = c.permit-grant.ensures.same.0 ∙ author;
       permits = c.permit-grant.ensures.next s.client author ∙ ap (λ (n : ℕ). n + 1) next;
-      fresh = subst (λ (l : List Entry). MayMake l (record { client = s.client; number = s.next + 1 })) (sym c.permit-grant.ensures.same.1)
+      fresh = subst (λ (l : List HistoryEntry). MayMake l (record { client = s.client; number = s.next + 1 })) (sym c.permit-grant.ensures.same.1)
           (fresh_after s.client s.next s.writer.seen [] c.add.new.self.seen c.args.name c.of.result c.self.invariant.fresh c.add.ensures.added);
     }

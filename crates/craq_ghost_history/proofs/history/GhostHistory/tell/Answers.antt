@@ -1,6 +1,6 @@
 use Rattle.std.proofs.Common.{◌≡◌, ◌∙◌, ap, sym, arith}
 use Rattle.craq_ghost_history.proofs.Keeping.{tells_splits}
-use Rattle.craq_ghost_history.proofs.history.History.tell.Goals as goal
+use Rattle.craq_ghost_history.proofs.history.GhostHistory.tell.Goals as goal
 
 pub split_seat-requires : goal.split_seat-requires
 split_seat-requires g c =

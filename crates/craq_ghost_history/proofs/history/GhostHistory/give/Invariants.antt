@@ -1,4 +1,4 @@
-use Rattle.craq_ghost_history.proofs.history.History.give.Given as goal
+use Rattle.craq_ghost_history.proofs.history.GhostHistory.give.Given as goal
 
 -- the author that was asked for
 abbrev pub ghosts-give_as : goal.ghosts-give_as

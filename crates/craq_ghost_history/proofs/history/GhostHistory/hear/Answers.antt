@@ -1,6 +1,6 @@
 use Rattle.std.proofs.Common.{◌≡◌, ◌∙◌, ap, sym, arith}
 use Rattle.craq_ghost_history.proofs.Keeping.{hears_joins}
-use Rattle.craq_ghost_history.proofs.history.History.hear.Goals as goal
+use Rattle.craq_ghost_history.proofs.history.GhostHistory.hear.Goals as goal
 
 pub join_seat-requires : goal.join_seat-requires
 join_seat-requires g c =

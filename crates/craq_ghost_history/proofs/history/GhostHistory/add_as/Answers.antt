@@ -1,6 +1,6 @@
 use Rattle.std.proofs.Common.{◌≡◌, ◌∙◌, ap, sym, arith}
 use Rattle.craq_ghost_history.proofs.Keeping.{adds_allowed}
-use Rattle.craq_ghost_history.proofs.history.History.add_as.Goals as goal
+use Rattle.craq_ghost_history.proofs.history.GhostHistory.add_as.Goals as goal
 
 pub load-requires : goal.load-requires
 load-requires g c =

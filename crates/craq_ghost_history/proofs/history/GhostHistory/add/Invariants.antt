@@ -1,5 +1,5 @@
 use Rattle.std.specs.Prelude.{Some}
-use Rattle.craq_ghost_history.proofs.history.History.add.Given as goal
+use Rattle.craq_ghost_history.proofs.history.GhostHistory.add.Given as goal
 
 -- the entry that is added
 abbrev pub ghosts-add_as : goal.ghosts-add_as

@@ -1,6 +1,6 @@
 use Rattle.std.proofs.Common.{◌≡◌, ◌∙◌, ap, sym, arith}
 use Rattle.craq_ghost_history.proofs.Keeping.{permits_splits}
-use Rattle.craq_ghost_history.proofs.history.History.permit.Goals as goal
+use Rattle.craq_ghost_history.proofs.history.GhostHistory.permit.Goals as goal
 
 pub split_seat-requires : goal.split_seat-requires
 split_seat-requires g c =

@@ -11,7 +11,7 @@ use Rattle.craq_frames.specs.Frame.{frame, payload_limit}
 use Rattle.craq_wire.specs.NumberEncoding.{number}
 use Rattle.std.specs.Int.{w32}
 use Rattle.craq_front.proofs.Lengths.{len32}
-use Rattle.craq_front.specs.Serving.{Turn, Replies, RepliesEach, Served, idle, neither, reader, writer, IsUsedUp, Session, Next, Batch}
+use Rattle.craq_front.specs.Serving.{Turn, Replies, RepliesEach, Served, idle, neither, reader, writer, IsUsedUp, Conversation, Next, Batch}
 
 -- ---- whole frames and their replies
 
@@ -82,7 +82,7 @@ served_shorter turn a b input rest unsent h = shorter h.payloads input rest h.fr
 
 -- the part of the unsent bytes that was written, where a write failed
 pub write_failed : {D : Type 0} (turn : Turn D) (a b c : D) (read input left written unsent : List ℕ) (n k m : ℕ) (r : Result Bool Refusal)
-    → Served turn a read input written n b → Batch turn b input left unsent k c r → Session turn a read (written ++ take m unsent) c writer (Err refusals.Io)
+    → Served turn a read input written n b → Batch turn b input left unsent k c r → Conversation turn a read (written ++ take m unsent) c writer (Err refusals.Io)
 write_failed turn a b c read input left written unsent n k m (Ok true) h t = (
   left,
   n + k,
@@ -147,7 +147,7 @@ write_failed turn a b c read input left written unsent n k m (Err _) h t = absur
 
 -- a refusal of the batch, after the unsent bytes were written
 pub batch_refused : {D : Type 0} (turn : Turn D) (a b c : D) (read input left written unsent : List ℕ) (n k : ℕ) (e : Refusal)
-    → (e ≡ refusals.Exhausted → IsUsedUp (n + k) read) → Served turn a read input written n b → Batch turn b input left unsent k c (Err e) → Session turn a read (written ++ unsent) c neither (Err e)
+    → (e ≡ refusals.Exhausted → IsUsedUp (n + k) read) → Served turn a read input written n b → Batch turn b input left unsent k c (Err e) → Conversation turn a read (written ++ unsent) c neither (Err e)
 batch_refused turn a b c read input left written unsent n k refusals.FrameTooLong many h t =
     (t.0, n + k, written ++ t.1, t.2, served_then turn a b c read input t.0 written t.1 n k h t.3, t.4, ap (λ (x : List ℕ). written ++ x) t.5 ∙ sym (append_assoc written t.1 t.2))
 batch_refused turn a b c read input left written unsent n k refusals.Memory many h t =
@@ -158,23 +158,23 @@ batch_refused turn a b c read input left written unsent n k _ many h t = absurd 
 
 -- less than a frame is left where a read failed
 pub read_failed : {D : Type 0} (turn : Turn D) (a b c : D) (read input left written unsent : List ℕ) (n k : ℕ)
-    → Served turn a read input written n b → Batch turn b input left unsent k c (Ok true) → Session turn a read (written ++ unsent) c reader (Err refusals.Io)
+    → Served turn a read input written n b → Batch turn b input left unsent k c (Ok true) → Conversation turn a read (written ++ unsent) c reader (Err refusals.Io)
 read_failed turn a b c read input left written unsent n k h t = (left, n + k, served_then turn a b c read input left written unsent n k h t.0, t.1)
 
 -- or where there was no room for a read
 pub no_room : {D : Type 0} (turn : Turn D) (a b c : D) (read input left written unsent : List ℕ) (n k : ℕ)
-    → Served turn a read input written n b → Batch turn b input left unsent k c (Ok true) → Session turn a read (written ++ unsent) c neither (Err refusals.Memory)
+    → Served turn a read input written n b → Batch turn b input left unsent k c (Ok true) → Conversation turn a read (written ++ unsent) c neither (Err refusals.Memory)
 no_room turn a b c read input left written unsent n k h t = (left, n + k, c, served_then turn a b c read input left written unsent n k h t.0, idle refl)
 
 -- the end of the input between two frames
 pub all_answered : {D : Type 0} (turn : Turn D) (a b c : D) (read input left written unsent : List ℕ) (n k : ℕ)
-    → Served turn a read input written n b → Batch turn b input left unsent k c (Ok true) → left ≡ [] → Session turn a read (written ++ unsent) c neither (Ok (n + k))
+    → Served turn a read input written n b → Batch turn b input left unsent k c (Ok true) → left ≡ [] → Conversation turn a read (written ++ unsent) c neither (Ok (n + k))
 all_answered turn a b c read input left written unsent n k h t e =
     subst (λ (x : List ℕ). Served turn a read x (written ++ unsent) (n + k) c) e (served_then turn a b c read input left written unsent n k h t.0)
 
 -- the end of the input inside a frame
 pub cut_short : {D : Type 0} (turn : Turn D) (a b c : D) (read input left written unsent : List ℕ) (n k : ℕ)
-    → Served turn a read input written n b → Batch turn b input left unsent k c (Ok true) → 0 < length left → Session turn a read (written ++ unsent) c neither (Err refusals.Closed)
+    → Served turn a read input written n b → Batch turn b input left unsent k c (Ok true) → 0 < length left → Conversation turn a read (written ++ unsent) c neither (Err refusals.Closed)
 cut_short turn a b c read input left written unsent n k h t e = (left, n + k, served_then turn a b c read input left written unsent n k h t.0, t.1, e)
 
 -- ---- a batch
@@ -195,11 +195,11 @@ next_goes_on turn a b input rest unsent e used t = subst (λ (x : Refusal). Next
 -- the end of the input
 pub ended_so : {D : Type 0} (turn : Turn D) (a b c : D) (read input left written unsent items : List ℕ) (n k frames : ℕ) (r : Result ℕ Refusal)
     → Served turn a read input written n b → Batch turn b input left unsent k c (Ok true) → items ≡ left → frames ≡ n + k
-    → IfOk r (λ m. (m ≡ frames) × (items ≡ [])) → IfErr r (λ e. (e ≡ refusals.Closed) × (0 < length items)) → Session turn a read (written ++ unsent) c neither r
+    → IfOk r (λ m. (m ≡ frames) × (items ≡ [])) → IfErr r (λ e. (e ≡ refusals.Closed) × (0 < length items)) → Conversation turn a read (written ++ unsent) c neither r
 ended_so turn a b c read input left written unsent items n k frames (Ok m) h t same counted ok err =
-    subst (λ (x : ℕ). Session turn a read (written ++ unsent) c neither (Ok x)) (sym (ok.0 ∙ counted)) (all_answered turn a b c read input left written unsent n k h t (sym same ∙ ok.1))
+    subst (λ (x : ℕ). Conversation turn a read (written ++ unsent) c neither (Ok x)) (sym (ok.0 ∙ counted)) (all_answered turn a b c read input left written unsent n k h t (sym same ∙ ok.1))
 ended_so turn a b c read input left written unsent items n k frames (Err e) h t same counted ok err =
-    subst (λ (x : Refusal). Session turn a read (written ++ unsent) c neither (Err x)) (sym err.0)
+    subst (λ (x : Refusal). Conversation turn a read (written ++ unsent) c neither (Err x)) (sym err.0)
     (cut_short turn a b c read input left written unsent n k h t (subst (λ (x : List ℕ). 0 < length x) same err.1))
 
 -- ---- from one turn of reading and writing to the next

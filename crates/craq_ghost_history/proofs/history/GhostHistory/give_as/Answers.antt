@@ -2,7 +2,7 @@ use Rattle.std.proofs.Common.{◌≡◌, ◌∙◌, ap, sym, arith, subst}
 use Rattle.craq_ghost_history.specs.declared.author.Author.{Author}
 use Rattle.craq_ghost_history.specs.Authors.{MayGive}
 use Rattle.craq_ghost_history.proofs.Keeping.{gives_splits}
-use Rattle.craq_ghost_history.proofs.history.History.give_as.Goals as goal
+use Rattle.craq_ghost_history.proofs.history.GhostHistory.give_as.Goals as goal
 
 pub split_seat-requires : goal.split_seat-requires
 split_seat-requires g c =

@@ -1,6 +1,6 @@
 use Rattle.std.proofs.Common.{◌≡◌, ◌∙◌, ap, sym, arith}
 use Rattle.craq_ghost_history.proofs.Keeping.{looks_allowed}
-use Rattle.craq_ghost_history.proofs.history.History.look.Goals as goal
+use Rattle.craq_ghost_history.proofs.history.GhostHistory.look.Goals as goal
 
 pub load-requires : goal.load-requires
 load-requires g c =

@@ -122,15 +122,21 @@ module _ {T R : Type 0} (tells : List ℕ → Type 0) (refuses : Refusing) (subm
           (sends came went writes.0 c.state d.state r writes.2);
     }
 
-    -- it read, had its round, got the outcome of its call, and wrote
-    pub on_turn : (b c d e f : Connection S T) (most key : ℕ) → Reads (remaining b.stream) (remaining c.stream) b.state c.state → contents c.stream ≡ contents b.stream
+    -- it had a round
+    pub on_round : (c d : Connection S T) (most key : ℕ) → HasRound most tells refuses (under_key submits key) c.over c.state c.calls d.state d.calls → d.stream ≡ c.stream
+        → ReachesOn remaining contents tells refuses submits finishes c d
+    on_round c d most key round still =
+        on_still c d still (λ first came went r. has_round_reaches tells refuses submits finishes first came went most c.over c.state d.state key c.calls d.calls round r)
+
+    -- it read, had its round, went on, got the outcome of its call, and wrote
+    pub on_turn : (b c d e f g : Connection S T) (most key : ℕ) → Reads (remaining b.stream) (remaining c.stream) b.state c.state → contents c.stream ≡ contents b.stream
         → HasRound most tells refuses (under_key submits key) c.over c.state c.calls d.state d.calls → d.stream ≡ c.stream
-        → CompletesCall finishes d.state e.state → e.stream ≡ d.stream
-        → Writes (contents e.stream) (contents f.stream) e.state f.state → remaining f.stream ≡ remaining e.stream → ReachesOn remaining contents tells refuses submits finishes b f
-    on_turn b c d e f most key reads taken round still completed kept writes given =
-        let stepped : On c d = on_still c d still (λ first came went r. has_round_reaches tells refuses submits finishes first came went most c.over c.state d.state key c.calls d.calls round r) in
-        let done : On d e = on_still d e kept (λ first came went r. completes_reaches first came went d.state e.state completed (is_waiting d.state.phase) refl r) in
-        on_then b c f (on_read b c reads taken) (on_then c d f stepped (on_then d e f done (on_written e f writes given)))
+        → ReachesOn remaining contents tells refuses submits finishes d e
+        → CompletesCall finishes e.state f.state → f.stream ≡ e.stream
+        → Writes (contents f.stream) (contents g.stream) f.state g.state → remaining g.stream ≡ remaining f.stream → ReachesOn remaining contents tells refuses submits finishes b g
+    on_turn b c d e f g most key reads taken round still rest completed kept writes given =
+        let done : On e f = on_still e f kept (λ first came went r. completes_reaches first came went e.state f.state completed (is_waiting e.state.phase) refl r) in
+        on_then b c g (on_read b c reads taken) (on_then c d g (on_round c d most key round still) (on_then d e g rest (on_then e f g done (on_written f g writes given))))
 
     -- a new connection
     pub from_new : (stream : S) (session : T) (slot receipts : ℕ) (c d : Connection S T) (state : ConnectionState T) → IsNew c → CameAs stream session slot receipts c

@@ -23,6 +23,10 @@ use std::os::fd::AsRawFd;
 /// there. This project's profile.
 const FEW_BYTES: usize = 1_024;
 
+/// The most steps of a connection in its share: those of one request, and one that looks for the
+/// next. So a reply behind which nothing waits is written at once. This project's profile.
+pub(crate) const MOST_STEPS: usize = 3;
+
 /// The share of each busy connection in a round of its event loop.
 #[derive(Clone, Copy, Debug)]
 pub(crate) struct Share {
@@ -206,6 +210,11 @@ impl<S: Socket, T> Connection<S, T> {
         ensures state { self.new.state ≡ self.old.state }
     {
         self.readiness.until_dry = true;
+    }
+
+    /// Returns whether a whole frame may be there and no call is under way.
+    pub(crate) fn has_more(&self) -> bool {
+        self.more && !self.waits()
     }
 
     /// Returns whether its call is under way: a completion will come.

@@ -16,7 +16,7 @@ ghost use Rattle.craq_event_loop.specs.Rounds.{MoveUp, left_after};
 ghost use Rattle.craq_event_loop.specs.Serving.{ReadsAt, Serves, WritesAt};
 
 use crate::backend::{Arrival, LoopBackend};
-use crate::connection::{Connection, Share, register};
+use crate::connection::{Connection, MOST_STEPS, Share, register};
 use crate::socket::Socket;
 use crate::traffic::ClientStream;
 use craq_completions::Completion;
@@ -44,10 +44,6 @@ const MOST_POLLED: usize = 2;
 
 /// The most busy connections whose updates the event loop takes through the chain itself.
 const LIGHT_LOAD: usize = 4;
-
-/// The most steps of a connection in its share: those of one request, and one that looks for the
-/// next. So a reply behind which nothing waits is written at once. This project's profile.
-const MOST_STEPS: usize = 3;
 
 /// The number of looks for work of an event loop with few connections before it sleeps: some 60
 /// microseconds.

@@ -6,7 +6,7 @@ ghost use Rattle.craq_event_loop.specs.Busy.{IsBehind, IsDone, is_waiting};
 ghost use Rattle.craq_event_loop.specs.Reaching.{IsReachable, ReachesOn};
 
 use crate::backend::Arrival;
-use crate::connection::{Connection, Share};
+use crate::connection::{Connection, MOST_STEPS, Share};
 use crate::socket::Socket;
 use craq_session::{BlockingBackend, ConnectionState, Load, ReceiptPolicy};
 use std::alloc::Global;
@@ -18,13 +18,33 @@ const READ_SIZE: usize = 8_192;
 /// The key of the only connection.
 const KEY: usize = 0;
 
-/// The share of the only connection: all steps that there are to take.
-const WHOLE: Share = Share {
+/// The steps of one request, and one that looks for the next.
+const FIRST: Share = Share {
+    steps: MOST_STEPS,
+    load: Load::Single,
+};
+
+/// All steps that there are to take: at most those of the requests of one read.
+const REST: Share = Share {
     steps: usize::MAX,
     load: Load::Single,
 };
 
 impl<S: Socket, T> Connection<S, T> {
+    /// Takes the steps of the requests behind the first one, if there may be any and no call is under
+    /// way. The backend lets few threads do so at a time (`BlockingBackend::begin_bulk`).
+    #[tactic(auto, using(crate::proofs::OwnThread::on_as_before, crate::proofs::OwnThread::on_round))]
+    fn take_rest<B: BlockingBackend<Session = T>>(&mut self, alloc: Global, backend: &B)
+        ensures reaches { ReachesOn S.remaining S.contents (B.tells backend.now) (B.refuses backend.now) (called_by (B.submits backend.now) (B.finishes backend.now)) (B.finishes backend.now) self.old self.new }
+    {
+        if !self.has_more() {
+            return;
+        }
+        backend.begin_bulk();
+        self.advance(alloc, backend, KEY, REST);
+        backend.end_bulk();
+    }
+
     /// Reads, takes all steps, waits for the call that they made, and writes. No call is under way
     /// afterwards.
     #[tactic(auto, using(crate::proofs::OwnThread::on_turn, crate::proofs::OwnThread::written_rests))]
@@ -38,7 +58,8 @@ impl<S: Socket, T> Connection<S, T> {
         ensures reaches { ReachesOn S.remaining S.contents (B.tells backend.now) (B.refuses backend.now) (called_by (B.submits backend.now) (B.finishes backend.now)) (B.finishes backend.now) self.old self.new }
     {
         self.read(alloc, chunk, 0);
-        self.advance(alloc, backend, KEY, WHOLE);
+        self.advance(alloc, backend, KEY, FIRST);
+        self.take_rest(alloc, backend);
         self.complete(alloc, backend);
         self.give(0);
     }

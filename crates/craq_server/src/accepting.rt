@@ -3,6 +3,7 @@
 ghost use Rattle.std.specs.Prelude.{◌≡◌, ◌⊎◌, [], false, IfErr, IfOk};
 ghost use Rattle.craq_server.specs.Sessions.{IsNewSession};
 
+use crate::bulk_limit::BulkLimit;
 use crate::connections::Connections;
 use crate::counters::Share;
 use crate::incoming::Incoming;
@@ -103,6 +104,8 @@ pub(crate) struct Server<'a, R, C: Core + Named, G: Gate> {
     pub(crate) connections: &'a Connections,
     /// The passes that were returned on all connections.
     pub(crate) passes: Passes,
+    /// The limit of the connections' own threads.
+    bulk_limit: BulkLimit,
     /// The receipts of each connection that has ended, by order of connection; none of those that
     /// have not.
     receipts: Mutex<Vec<Vec<CallReceipt>>>,
@@ -160,6 +163,7 @@ where
             serving,
             connections,
             passes: Passes::new(serving.most_leap),
+            bulk_limit: BulkLimit::new(&rt),
             receipts: Mutex::new(Vec::new(alloc)),
         }
     }
@@ -269,6 +273,7 @@ where
             alloc: self.alloc,
             store: self.store,
             passes: &self.passes,
+            bulk_limit: &self.bulk_limit,
             log: self.serving.log,
             completions: Arc::new(self.alloc, completions)?,
             share,
@@ -370,6 +375,7 @@ where
             serving: _,
             connections: _,
             passes: _,
+            bulk_limit: _,
             receipts,
         } = self;
         receipts.into_inner()

@@ -36,6 +36,8 @@ struct IoContext<'s, 'a, R: Wait, C: Core + Named, G: Gate> {
     event_loop: Mutex<Option<EventLoop>>,
     /// The largest number of seconds that the clock gave.
     latest: AtomicU64,
+    /// True where the thread closed a connection at once, for which it had no memory.
+    had_failures: AtomicBool,
 }
 
 impl<'s, 'a, R, C, G> Backend for IoContext<'s, 'a, R, C, G>
@@ -73,7 +75,7 @@ where
 
     type Reply = StoreOutcome<C>;
 
-    ghost submits = { λ context token. Submits };
+    ghost submits = { λ context token. Submits context.backend.passes.now.leap };
 
     ghost finishes = { λ context. FinishesCall };
 
@@ -147,11 +149,14 @@ where
     }
 
     fn ended(&self, slot: usize, receipts: usize, state: Option<ConnectionState<StoreSession<C>>>)
-        requires { IfSome state (λ s. IsReachableAt self.now.backend.store.now s) }
+        requires { IfSome state (λ s. IsReachableAt self.now.backend.store.now self.now.backend.passes.now.leap s) }
     {
         let calls = match state {
             Some(state) => self.backend.end_connection(state),
-            None => Vec::new(self.server.alloc),
+            None => {
+                self.had_failures.store(true, Ordering::SeqCst);
+                Vec::new(self.server.alloc)
+            }
         };
         self.server.ended(slot, receipts, calls);
     }
@@ -179,6 +184,7 @@ where
             over: AtomicBool::new(false),
             event_loop: Mutex::new(Some(event_loop)),
             latest: AtomicU64::new(0),
+            had_failures: AtomicBool::new(false),
         })
     }
 
@@ -387,6 +393,13 @@ where
         taken
     }
 
+    /// Returns whether some thread closed a connection for which it had no memory.
+    fn had_failures(&self) -> bool {
+        self.all
+            .iter()
+            .any(|context| context.had_failures.load(Ordering::SeqCst))
+    }
+
     /// Serves as `run_threads` does, and waits until all threads have ended.
     fn serve_all(&self, listener: &TcpListener) -> Result<Taken, AllocError> {
         thread::scope(thread::scope_env(), &self.server.rt, |scope| {
@@ -412,5 +425,12 @@ where
         all.push(IoContext::new(server, event_loop, index)?)?;
     }
     let contexts = IoContexts { server, all };
-    contexts.serve_all(listener)
+    let Taken {
+        had_failures,
+        listener_failed,
+    } = contexts.serve_all(listener)?;
+    Ok(Taken {
+        had_failures: had_failures || contexts.had_failures(),
+        listener_failed,
+    })
 }

@@ -3,6 +3,7 @@
 #![tactic(auto)]
 
 mod accepting;
+mod bulk_limit;
 mod connection_slots;
 mod connections;
 mod counters;

@@ -88,6 +88,13 @@ pub trait AsyncBackend: Backend {
 
 /// A backend of one connection, which can wait for the completion of its call.
 pub trait BlockingBackend: AsyncBackend {
+    /// Waits until few other connections take the steps of requests that came without waiting for
+    /// replies. So a client that waits for each reply finds a processor.
+    fn begin_bulk(&self);
+
+    /// Ends what `begin_bulk` began.
+    fn end_bulk(&self);
+
     /// Waits for the completion of the call that was submitted last, and returns its reply.
     fn wait(&self) -> Self::Reply;
 }

@@ -10,33 +10,49 @@ def table(name="a", nodes="[1]"):
     return f'[[chain]]\nname = "{name}"\nnodes = {nodes}\n'
 
 
+CHAINS = "expected tables [[chain]]"
+NAME = "chain 0, from 0: expected a name of 1 to 32 letters, digits, _ and -"
+NODES = "chain 0, from 0: expected nodes from 1 to 4294967295"
+
+# Texts that are no plan, each with the rule that it breaks as the line behind `plan refused` has it.
 NO_PLAN = {
-    "nothing": "",
-    "no TOML": "[[chain]",
-    "bytes that are no text": b"\xff" + table().encode(),
-    "another key": table() + "[other]\n",
-    "a key before": "limit = 1\n" + table(),
-    "a table for the array": '[chain]\nname = "a"\nnodes = [1]\n',
-    "a number for the array": "chain = 1\n",
-    "no chain": "chain = []\n",
-    "65 chains": "".join(table(f"c{i}") for i in range(65)),
-    "a chain without a name": "[[chain]]\nnodes = [1]\n",
-    "a chain without nodes": '[[chain]]\nname = "a"\n',
-    "a chain with another key": table() + "color = 1\n",
-    "a number as a name": "[[chain]]\nname = 1\nnodes = [1]\n",
-    "an empty name": table(""),
-    "a name of 33": table("a" * 33),
-    "a name with a blank": table("a b"),
-    "a name twice": table() + table(nodes="[2]"),
-    "no nodes": table(nodes="[]"),
-    "9 nodes": table(nodes="[1, 2, 3, 4, 5, 6, 7, 8, 9]"),
-    "node 0": table(nodes="[0]"),
-    "a negative node": table(nodes="[-1]"),
-    "a node of 33 bits": table(nodes="[4294967296]"),
-    "a node twice": table(nodes="[1, 2, 1]"),
-    "a node as text": table(nodes='["1"]'),
-    "a node with a point": table(nodes="[1.0]"),
+    "nothing": ("", CHAINS),
+    "no TOML": (table() + "[[chain]", "line 4: unclosed array table, expected `]]`"),
+    "bytes that are no text": (b"\xff" + table().encode(), "the file is not text in UTF-8"),
+    "another key": (table() + "[other]\n", f'{CHAINS} alone, and found the key "other"'),
+    "a key before": ("limit = 1\n" + table(), f'{CHAINS} alone, and found the key "limit"'),
+    "another array": (table().replace("chain", "chains"), f'{CHAINS} alone, and found the key "chains"'),
+    "a table for the array": ('[chain]\nname = "a"\nnodes = [1]\n', CHAINS),
+    "a number for the array": ("chain = 1\n", CHAINS),
+    "no chain": ("chain = []\n", "expected 1 to 64 chains, and found 0"),
+    "65 chains": ("".join(table(f"c{i}") for i in range(65)), "expected 1 to 64 chains, and found 65"),
+    "a number for a chain": ("chain = [1]\n", "chain 0, from 0: expected a table with a name and nodes"),
+    "a chain without a name": ("[[chain]]\nnodes = [1]\n", "chain 0, from 0: expected a name"),
+    "a chain without nodes": ('[[chain]]\nname = "a"\n', "chain 0, from 0: expected nodes, as [1, 2, 3]"),
+    "a number for nodes": (table(nodes="1"), "chain 0, from 0: expected nodes, as [1, 2, 3]"),
+    "a chain with another key": (table() + "color = 1\n",
+                                 'chain 0, from 0: expected a name and nodes alone, and found the key "color"'),
+    "a number as a name": ("[[chain]]\nname = 1\nnodes = [1]\n", NAME),
+    "an empty name": (table(""), NAME),
+    "a name of 33": (table("a" * 33), NAME),
+    "a name with a blank": (table("a b"), NAME),
+    "a name twice": (table() + table("b") + table(nodes="[2]"), "chain 2, from 0: an earlier chain has the name a too"),
+    "no nodes": (table(nodes="[]"), "chain 0, from 0: expected 1 to 8 nodes, and found 0"),
+    "9 nodes": (table() + table("b", "[1, 2, 3, 4, 5, 6, 7, 8, 9]"), "chain 1, from 0: expected 1 to 8 nodes, and found 9"),
+    "node 0": (table(nodes="[0]"), NODES),
+    "a negative node": (table(nodes="[-1]"), NODES),
+    "a node of 33 bits": (table(nodes="[4294967296]"), NODES),
+    "a node twice": (table(nodes="[1, 2, 1]"), "chain 0, from 0: node 1 stands twice"),
+    "a node as text": (table(nodes='["1"]'), NODES),
+    "a node with a point": (table(nodes="[1.0]"), NODES),
 }
+
+# Addresses at which nothing can listen, each with the reason. The last is of a network that no system
+# has: it stands in documents alone.
+FORM = "an address is HOST:PORT, as 127.0.0.1:7000"
+NO_ADDRESS = [("7000", FORM), ("127.0.0.1", FORM), ("127.0.0.1:70000", FORM),
+              ("192.0.2.1:0", "Cannot assign requested address (os error 99)")]
+IN_USE = "Address already in use (os error 98)"
 
 NO_LINE = [
     [], ["PLAN"], ["PLAN", "127.0.0.1:0", "more"], ["--unknown", "PLAN", "127.0.0.1:0"], ["--connections", "x", "PLAN", "127.0.0.1:0"],
@@ -54,17 +70,22 @@ def plans(checks, craqd, taken):
         status, out, err = running.ended([craqd, *words])
         checks.same(f"craqd {' '.join(words)}", (status, out, err != ""), (2, "", True))
     with tempfile.TemporaryDirectory() as folder:
-        for file in os.path.join(folder, "none"), folder:
-            checks.same(f"craqd {file}", running.ended([craqd, file, taken]), (2, "", f"cannot read {file}\n"))
-    for what, text in NO_PLAN.items():
+        for file, reason in ((os.path.join(folder, "none"), "No such file or directory (os error 2)"),
+                             (folder, "Is a directory (os error 21)")):
+            checks.same(f"craqd {file}", running.ended([craqd, file, taken]), (2, "", f"cannot read {file}\ncraqd: {reason}\n"))
+    for what, (text, rule) in NO_PLAN.items():
         with running.text_file(text) as file:
-            checks.same(f"a plan with {what}", running.ended([craqd, file.name, taken]), (2, "", "plan refused\n"))
+            checks.same(f"a plan with {what}", running.ended([craqd, file.name, taken]), (2, "", f"plan refused\ncraqd: {rule}\n"))
     with running.text_file(GREATEST) as file:
         found = running.ended([craqd, file.name, taken], LITTLE)
         checks.same("the greatest plan in little memory", found, (3, "", "no memory\n"))
     with running.text_file(running.PLAN) as file:
         for words in [file.name, taken], ["--journal", "--connections", "1", file.name, taken]:
-            checks.same("an address in use", running.ended([craqd, *words]), (4, "", "cannot listen\n"))
+            found = running.ended([craqd, *words])
+            checks.same("an address in use", found, (4, "", f"cannot listen\ncraqd: ADDRESS {taken}: {IN_USE}\n"))
+        for address, reason in NO_ADDRESS:
+            found = running.ended([craqd, file.name, address])
+            checks.same(f"the address {address}", found, (4, "", f"cannot listen\ncraqd: ADDRESS {address}: {reason}\n"))
         status, err = running.unheard([craqd, file.name, "127.0.0.1:0"])
         served = running.served_line(file, 0, *running.way([]))
         checks.that(status == 1 and re.fullmatch(served + "cannot print\n", err), f"craqd that cannot print: {status} {err!r}")

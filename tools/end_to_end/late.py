@@ -57,6 +57,11 @@ def slow(made, kind):
         time.sleep(SLOWNESS)
 
 
+def full(made, _kind):
+    """Closes the connection, as a server does that has as many as it may have."""
+    made.shutdown(socket.SHUT_RDWR)
+
+
 class Played:
     """A server that takes requests and answers as `answer` does: its address, the time of its first connection, and the
     updates that came."""
@@ -101,6 +106,7 @@ class Played:
 
 
 LATE = "craq: no reply came from {} in time\n"
+FULL = "connection\ncraq: the connection broke; a server that is full (--most) closes each connection\n"
 # Of craq and of the command in Python: the words, what is entered, the server's answers, the status, the beginning of
 # standard error, and whether that says that the update may have been done.
 ROWS = [
@@ -123,6 +129,7 @@ ROWS = [
     ("--node 1 shell", "set k v\n", told, 0, LATE, True),
     ("shell", "", silent, 4, "connection\n", False),
     ("watch", "", silent, 4, "connection\n", False),
+    ("watch", "", full, 4, FULL, False),
     ("watch --metrics {}", "", silent, 4, "connection\n", False),
     ("--node 1 bench 1 1 50", "", told, 4, "connection\n", False),
 ]

@@ -1,4 +1,5 @@
 """Tries a server at its limits: too many connections, idle ones, a pass that leaps, the end of its standard input."""
+import os
 import re
 import resource
 import signal
@@ -9,18 +10,21 @@ import time
 
 from tools.end_to_end import running, signals
 from tools.end_to_end.bad_input import framed, rest, taken
+from tools.hostile.refused import Library
 
 LEAP = 1_048_576
 MANY = 1_500
+# Numbers of the asks for memory that are refused, each in a server of its own.
+REFUSED = range(1, 17)
 
 
 class Limited:
     """A craqd with these options, which ends once its standard input does."""
 
-    def __init__(self, craqd, *options, errors=subprocess.PIPE, files=None):
+    def __init__(self, craqd, *options, errors=subprocess.PIPE, files=None, env=()):
         self.file, self.options = running.text_file(running.PLAN), [*running.OPTIONS, *options]
         words = [craqd, "--until-input-ends", *self.options, self.file.name, "127.0.0.1:0"]
-        self.process = subprocess.Popen(words, stdin=subprocess.PIPE, stdout=subprocess.PIPE, stderr=errors,
+        self.process = subprocess.Popen(words, stdin=subprocess.PIPE, stdout=subprocess.PIPE, stderr=errors, env={**os.environ, **dict(env)},
                                         preexec_fn=running.limited(resource.RLIMIT_NOFILE, files))
         found = re.fullmatch(rb"listening ([1-9][0-9]*)\n", self.process.stdout.readline())
         self.port = int(found[1]) if found else 0
@@ -114,6 +118,21 @@ def many(checks, craqd):
         for made in some:
             made.close()
         server.finish(checks, f"a server of {MANY} connections at once", "")
+
+
+def memory(checks, craqd):
+    """A connection for which there is no memory is closed at once, by the thread that accepts it or by its event loop; then, and
+    only then, the status is 3."""
+    options, found = [] if running.OPTIONS else ["--threads", "1"], []
+    with tempfile.TemporaryDirectory(prefix="memory-") as folder:
+        library = Library(folder)
+        for at in REFUSED:
+            refusing = library.refusing(memory=at, after="listening")
+            with Limited(craqd, *options, env=refusing) as server, server.connect() as made:
+                is_closed = rest_or_none(made) == b""
+                server.process.communicate(timeout=running.PATIENCE)
+                found.append((is_closed, server.process.returncode))
+    checks.same(f"connections without memory, and the status: {found}", {*found}, {(True, 3), (False, 0)})
 
 
 def leaps(checks, craqd):
@@ -233,5 +252,5 @@ def log(checks, craqd):
 
 
 def tried(checks, craqd):
-    for part in most, many, idle, leaps, invented, kept, input_ends, journals, log:
+    for part in most, many, memory, idle, leaps, invented, kept, input_ends, journals, log:
         checks.part(f"limits: {part.__name__.replace('_', ' ')}", part, craqd)

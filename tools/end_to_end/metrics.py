@@ -10,7 +10,7 @@ import threading
 import time
 
 from tools import plain_client as example
-from tools.end_to_end import running
+from tools.end_to_end import faults, running
 from tools.hostile.refused import Library
 from tools.sockets import free_port, read_to_end
 
@@ -23,6 +23,7 @@ PROMETHEUS = "text/plain; version=0.0.4; charset=utf-8"
 PLAIN = "text/plain; charset=utf-8"
 NO_PAGE = "expected /metrics, /healthz or /status.json\n"
 NO_REQUEST = "expected a request of HTTP/1.1\n"
+NOT_GET = "expected the method GET\n"
 # A line of a page for Prometheus.
 LINE = re.compile(r'(# HELP [a-z_]+ .+|# TYPE [a-z_]+ (?:counter|gauge)|[a-z_]+(?:\{[a-z]+="[^"]*"(?:,[a-z]+="[^"]*")*\})? [0-9]+)')
 
@@ -31,8 +32,8 @@ ROWS = [
     (b"GET /keys HTTP/1.1\r\nHost: h\r\n\r\n", "404 Not Found", NO_PAGE),
     (b"GET / HTTP/1.0\r\n\r\n", "404 Not Found", NO_PAGE),
     (b"GET /metrics?name=x HTTP/1.1\r\n\r\n", "404 Not Found", NO_PAGE),
-    (b"POST /metrics HTTP/1.1\r\nContent-Length: 0\r\n\r\n", "405 Method Not Allowed\r\nAllow: GET", NO_REQUEST),
-    (b"HEAD /metrics HTTP/1.1\r\n\r\n", "405 Method Not Allowed\r\nAllow: GET", NO_REQUEST),
+    (b"POST /metrics HTTP/1.1\r\nContent-Length: 0\r\n\r\n", "405 Method Not Allowed\r\nAllow: GET", NOT_GET),
+    (b"HEAD /metrics HTTP/1.1\r\n\r\n", "405 Method Not Allowed\r\nAllow: GET", NOT_GET),
     (b"GET /metrics HTTP/2.0\r\n\r\n", "400 Bad Request", NO_REQUEST),
     (b"\x00\x01\x02\x03\r\n\r\n", "400 Bad Request", NO_REQUEST),
     (b"GET /metrics HTTP/1.1\r\n" + b"a: b\r\n" * 65 + b"\r\n", "400 Bad Request", NO_REQUEST),
@@ -283,9 +284,10 @@ def watch(checks, craqd, craq):
 def taken(checks, craqd):
     """An address of metrics that is in use, or is none."""
     with socket.create_server(("127.0.0.1", 0)) as it, running.text_file(running.PLAN) as file:
-        for address in f"127.0.0.1:{it.getsockname()[1]}", "nowhere":
+        for address, reason in (f"127.0.0.1:{it.getsockname()[1]}", faults.IN_USE), ("nowhere", faults.FORM):
             found = running.ended([craqd, "--metrics", address, file.name, "127.0.0.1:0"])
-            checks.same(f"craqd --metrics {address}", found, (4, "", "cannot listen\n"))
+            told = f"cannot listen\ncraqd: --metrics {address}: {reason}\n"
+            checks.same(f"craqd --metrics {address}", found, (4, "", told))
 
 
 def at_once(checks, craqd):

@@ -45,7 +45,8 @@ def way(options):
     """Yields the parts of the line in which a craqd with these options says in which way it serves."""
     given = dict(zip(options, options[1:]))
     threads, idle = given.get("--threads", "0"), given.get("--idle", "0")
-    yield "a thread for each connection" if threads == "0" else f"{threads} threads for all connections"
+    yield {"0": "a thread for each connection", "1": "1 thread for all connections"}.get(
+        threads, f"{threads} threads for all connections")
     if given.get("--most", "0") != "0":
         yield f"at most {given['--most']}"
     if idle != "0":

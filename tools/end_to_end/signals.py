@@ -1,4 +1,4 @@
-"""SIGTERM and SIGINT while a client works. ./serve over the program as it is tried here ends in order, and what was answered is audited; craqd itself
+"""SIGTERM, SIGINT and SIGHUP while a client works. ./serve over the program as it is tried here ends in order, and what was answered is audited; craqd itself
 ends at once, and prints nothing."""
 import itertools
 import os
@@ -102,11 +102,11 @@ def at_once(checks, craqd, plan, ending, options):
 
 
 def tried(checks, craqd):
-    """Tries both signals, and returns what was tried, in words."""
-    both = signal.SIGTERM, signal.SIGINT
+    """Tries the three signals, and returns what was tried, in words."""
+    all_three = signal.SIGTERM, signal.SIGINT, signal.SIGHUP
     with tempfile.TemporaryDirectory(prefix="end-to-end-") as room, running.text_file(running.PLAN) as plan:
         top_with(craqd, room)
-        for ending, send in itertools.product(both, (os.kill, os.killpg)):
+        for ending, send in itertools.product(all_three, (os.kill, os.killpg)):
             in_order(checks, room, plan.name, ending, send)
-        for ending, options in itertools.product(both, (["--until-input-ends"], ["--connections", "9"])):
+        for ending, options in itertools.product(all_three, (["--until-input-ends"], ["--connections", "9"])):
             at_once(checks, craqd, plan.name, ending, options)

@@ -179,7 +179,7 @@ def lines(checks, it):
 def faults(checks, it):
     """The status of craqd comes through craqd-in-order."""
     status, told = it.ran(it.path("bin/craqd-in-order"), "nowhere.toml", "127.0.0.1:0")
-    checks.that(status == 2 and told.endswith("cannot read nowhere.toml\n"),
+    checks.that(status == 2 and "cannot read nowhere.toml\ncraqd: No such file" in told,
                 f"a plan that is not there: {status} {told}")
     status, told = it.ran(it.path("bin/craqd-in-order"), "--help")
     checks.that(status == 0 and told.startswith("Runs a replicated object store"),

@@ -6,11 +6,13 @@ mod audits;
 mod closing;
 mod control_input;
 mod controlling;
+mod failure;
 mod fault;
 mod figures;
 mod line_slot;
 mod lines;
 mod pages;
+mod plan_faults;
 mod plans;
 mod readiness;
 mod serving;
@@ -31,7 +33,7 @@ use std::sync::Wait;
 use std::thread::Threads;
 use std::time::Clock;
 
-/// Serves as a command line asks for, and prints a fault. Returns the status.
+/// Serves as a command line asks for, and prints a fault with its reason. Returns the status.
 fn run_words<R>(rt: R, words: &[&str]) -> io::Result<u8>
 where
     R: AllocGlobal + Files + Input<Reader = StdinLock<'static>> + Print + Eprint + Clock,
@@ -41,7 +43,7 @@ where
     match Line::read(rt.alloc(), words) {
         Ok(line) => match serve_line(rt, &line) {
             Ok(()) => Ok(0),
-            Err(fault) => fault.report(&rt, line.plan),
+            Err(failure) => failure.report(&rt, line.plan),
         },
         Err(error) => report_words(&rt, &error, NO_MEMORY),
     }

@@ -44,6 +44,9 @@ const PAGE_MILLISECONDS: u64 = 10;
 /// The body of a response to a request for no page.
 const NO_PAGE: &str = "expected /metrics, /healthz or /status.json\n";
 
+/// The body of a response to a request with another method.
+const NOT_GET: &str = "expected the method GET\n";
+
 /// The body of a response to bytes that are no request.
 const NO_REQUEST: &str = "expected a request of HTTP/1.1\n";
 
@@ -226,6 +229,7 @@ where
         match asked {
             Asked::Page(page) => self.page(page),
             Asked::NotFound => response(alloc, status, MediaType::Plain, NO_PAGE),
+            Asked::NotAllowed => response(alloc, status, MediaType::Plain, NOT_GET),
             _ => response(alloc, status, MediaType::Plain, NO_REQUEST),
         }
     }

@@ -2,7 +2,9 @@
 ghost use Rattle.std.specs.Prelude.{◌≡◌, ◌⊎◌, List, IfErr, IfOk, IsUtf8};
 ghost use Rattle.craq_place.specs.Plan.{Chain, IsPlan, IsPlanText};
 
+use crate::failure::Failure;
 use crate::fault::Fault;
+use crate::plan_faults::broken_rule;
 use craq_names::Refusal;
 use craq_place::Plan;
 use std::alloc::Global;
@@ -12,11 +14,14 @@ use std::rt::Files;
 use std::str::from_utf8;
 
 /// Reads the bytes of a file.
-fn bytes_of<R: AllocGlobal + Files>(rt: &R, path: &str) -> Result<Vec<u8>, Fault> {
+fn bytes_of<R: AllocGlobal + Files>(rt: &R, path: &str) -> Result<Vec<u8>, Failure> {
     match fs::read(rt, path) {
         Ok(bytes) => Ok(bytes),
-        Err(error) if error.kind() == ErrorKind::OutOfMemory => Err(Fault::Memory),
-        Err(_) => Err(Fault::CannotRead),
+        Err(error) if error.kind() == ErrorKind::OutOfMemory => Err(Failure::from(Fault::Memory)),
+        Err(error) => {
+            let reason = format!(in rt.alloc(); "{error}");
+            Err(Failure::new(Fault::CannotRead, reason))
+        }
     }
 }
 
@@ -38,10 +43,18 @@ fn plan_of_bytes(alloc: Global, bytes: &[u8]) -> Result<Plan, Fault>
     }
 }
 
-/// Reads the plan of a file.
-pub fn plan_of<R: AllocGlobal + Files>(rt: &R, path: &str) -> Result<Plan, Fault>
+/// Reads the plan of a file. The reason behind `BadPlan` is the first rule that the file breaks.
+pub fn plan_of<R: AllocGlobal + Files>(rt: &R, path: &str) -> Result<Plan, Failure>
     ensures { IfOk result IsPlan }
 {
     let bytes = bytes_of(rt, path)?;
-    plan_of_bytes(rt.alloc(), bytes.as_slice())
+    let bytes = bytes.as_slice();
+    match plan_of_bytes(rt.alloc(), bytes) {
+        Err(Fault::BadPlan) => {
+            let reason = broken_rule(rt.alloc(), bytes);
+            Err(Failure::new(Fault::BadPlan, reason))
+        }
+        Err(fault) => Err(Failure::from(fault)),
+        Ok(read) => Ok(read),
+    }
 }

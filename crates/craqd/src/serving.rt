@@ -5,56 +5,66 @@ ghost use Rattle.std.specs.Prelude.{◌≡◌, if◌then◌else◌, false, true,
 use crate::audits::print_audits;
 use crate::closing::{watch_control, watch_input};
 use crate::controlling::run_lines;
+use crate::failure::Failure;
 use crate::fault::Fault;
 use crate::line_slot::LineSlot;
 use crate::pages::Pages;
 use crate::plans::plan_of;
 use crate::telling::{Ports, tell_serving};
 use crate::ticking::tick_chains;
-use craq_cli::Line;
+use craq_cli::{ADDRESS_FORM, Line};
 use craq_compact_history::ListCore;
 use craq_server::{
     Connections, EventLoops, Log, ReceiptPolicy, ServeReport as Accepted, Serving, accept_with,
 };
 use craq_workers::{At, Named, OpenGate, OpenedHistory, Store, open_history};
-use std::alloc::AllocError;
+use std::alloc::{AllocError, Global};
 use std::io::{ErrorKind, Input, StdinLock};
 use std::marker::Brand;
 use std::net::{Net, TcpListener, TcpStream};
 use std::rt::Files;
 use std::sync::atomic::{AtomicBool, Ordering};
 use std::sync::{Arc, Wait};
-use std::thread;
 use std::thread::{Scope, Threads};
 use std::time::Clock;
+use std::{io, thread};
 
 /// The stores that are served, with the name of their history.
 pub type RunningStore<N> = Store<At<ListCore, N>, OpenGate>;
 
-/// Listens on an address.
-fn listen<R>(rt: &R, address: &str) -> Result<TcpListener, Fault>
+/// Returns the failure to listen on the address that the command line gives under this name.
+fn listen_failure(alloc: Global, name: &str, address: &str, error: &io::Error) -> Failure {
+    let reason = match error.kind() {
+        ErrorKind::OutOfMemory => return Failure::from(Fault::Memory),
+        ErrorKind::InvalidInput => format!(in alloc; "{name} {address}: {ADDRESS_FORM}"),
+        _ => format!(in alloc; "{name} {address}: {error}"),
+    };
+    Failure::new(Fault::CannotListen, reason)
+}
+
+/// Listens on the address that the command line gives under this name.
+fn listen<R>(rt: &R, name: &str, address: &str) -> Result<TcpListener, Failure>
 where
-    R: Net<Listener = TcpListener, Stream = TcpStream>,
+    R: AllocGlobal + Net<Listener = TcpListener, Stream = TcpStream>,
 {
     match TcpListener::bind(rt, address) {
         Ok(listener) => Ok(listener),
-        Err(error) if error.kind() == ErrorKind::OutOfMemory => Err(Fault::Memory),
-        Err(_) => Err(Fault::CannotListen),
+        Err(error) => Err(listen_failure(rt.alloc(), name, address, &error)),
     }
 }
 
 /// Listens for requests for metrics, if the command line asks for that.
-fn listen_for_metrics<R>(rt: &R, line: &Line<'_>) -> Result<Option<TcpListener>, Fault>
+fn listen_for_metrics<R>(rt: &R, line: &Line<'_>) -> Result<Option<TcpListener>, Failure>
 where
-    R: Net<Listener = TcpListener, Stream = TcpStream>,
+    R: AllocGlobal + Net<Listener = TcpListener, Stream = TcpStream>,
 {
     let Some(address) = line.metrics else {
         return Ok(None);
     };
-    let listener = listen(rt, address)?;
+    let listener = listen(rt, "--metrics", address)?;
     match listener.set_nonblocking(true) {
         Ok(()) => Ok(Some(listener)),
-        Err(_) => Err(Fault::CannotListen),
+        Err(_) => Err(Failure::from(Fault::CannotListen)),
     }
 }
 
@@ -379,7 +389,7 @@ where
 }
 
 /// Listens as a command line asks for and serves the connections to a store.
-fn serve_store<R, N>(rt: R, store: &RunningStore<N>, line: &Line<'_>) -> Result<(), Fault>
+fn serve_store<R, N>(rt: R, store: &RunningStore<N>, line: &Line<'_>) -> Result<(), Failure>
 where
     N: Named + Send + 'static,
     R: AllocGlobal + Input<Reader = StdinLock<'static>> + Print + Eprint + Clock,
@@ -388,7 +398,7 @@ where
 {
     let connections = Arc::new(rt.alloc(), Connections::new(rt.alloc(), line.most)?)?;
     let slot = Arc::new(rt.alloc(), LineSlot::new())?;
-    let listener = listen(&rt, line.address)?;
+    let listener = listen(&rt, "ADDRESS", line.address)?;
     let metrics = listen_for_metrics(&rt, line)?;
     let listeners = Listeners {
         clients: &listener,
@@ -398,7 +408,8 @@ where
         connections: &connections,
         slot: &slot,
     };
-    serve_listeners(rt, store, line, listeners, parts)
+    serve_listeners(rt, store, line, listeners, parts)?;
+    Ok(())
 }
 
 /// Returns the hooks of the store: one thread runs each chain.
@@ -412,7 +423,7 @@ const fn gate() -> OpenGate
 
 /// Starts a store of the chains of a plan file, with journals exactly where the command line asks
 /// for them.
-fn store_of<R, N>(rt: R, line: &Line<'_>, opened: OpenedHistory) -> Result<RunningStore<N>, Fault>
+fn store_of<R, N>(rt: R, line: &Line<'_>, opened: OpenedHistory) -> Result<RunningStore<N>, Failure>
 where
     N: Named + Send + 'static,
     R: AllocGlobal + Files + Threads + Wait + Copy + Send + 'static,
@@ -422,12 +433,12 @@ where
     let plan = plan_of(&rt, line.plan)?;
     match Store::start(rt, rt.alloc(), opened, &plan, gate(), line.journal) {
         Ok(store) => Ok(store),
-        Err(_) => Err(Fault::Memory),
+        Err(_) => Err(Failure::from(Fault::Memory)),
     }
 }
 
 /// Serves as a command line asks for, with a store of this history.
-fn serve_named<R, N>(rt: R, line: &Line<'_>, opened: OpenedHistory) -> Result<(), Fault>
+fn serve_named<R, N>(rt: R, line: &Line<'_>, opened: OpenedHistory) -> Result<(), Failure>
 where
     N: Named + Send + 'static,
     R: AllocGlobal + Files + Input<Reader = StdinLock<'static>> + Print + Eprint + Clock,
@@ -442,7 +453,7 @@ where
 }
 
 /// Serves as a command line asks for.
-pub fn serve_line<R>(rt: R, line: &Line<'_>) -> Result<(), Fault>
+pub fn serve_line<R>(rt: R, line: &Line<'_>) -> Result<(), Failure>
 where
     R: AllocGlobal + Files + Input<Reader = StdinLock<'static>> + Print + Eprint + Clock,
     R: Threads + Wait + Copy,

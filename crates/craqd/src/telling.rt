@@ -61,6 +61,8 @@ fn push_way(text: &mut String, line: &Line<'_>) -> Result<(), AllocError> {
     let (threads, most, idle) = (line.threads, line.most, line.idle);
     if threads == 0 {
         write!(text, " a thread for each connection")?;
+    } else if threads == 1 {
+        write!(text, " 1 thread for all connections")?;
     } else {
         write!(text, " {threads} threads for all connections")?;
     }

@@ -102,8 +102,8 @@ WRONG = [
     ("set a b c", NO_MORE.format("c")),
     ("set a xyz --hex", VALUE + "'xyz'\n"), ("set a x --decimal", VALUE + "'x'\n"),
     (f"set a {MAX}0 --decimal", VALUE + f"'{MAX}0'\n"),
-    ("cas a x b", "craq: expected VERSION, a number of 64 bits in decimal digits, and found 'x'\n"),
-    ("add a x", "craq: expected BY, a number of 64 bits in decimal digits, and found 'x'\n"),
+    ("cas a x b", "craq: expected VERSION, a number of 64 bits in decimal digits without leading zeros, and found 'x'\n"),
+    ("add a x", "craq: expected BY, a number of 64 bits in decimal digits without leading zeros, and found 'x'\n"),
     ("txn x:a", "craq: expected ITEM, one of c:KEY:VERSION, r:KEY and w:KEY:VALUE, with a KEY without a colon, and "
                 "found 'x:a'\n"),
     ("txn r:a:b", "craq: expected ITEM, one of c:KEY:VERSION, r:KEY and w:KEY:VALUE, with a KEY without a colon, "
@@ -117,11 +117,11 @@ WRONG = [
     ("append 1 1 k v", NO_MORE.format("k")),
     ("put 1 1 a b", "error: the following required arguments were not provided:\n  --connect <ADDRESS>\n  --node <N>\n"),
     ("members now", NO_MORE.format("now")), ("health now", NO_MORE.format("now")),
-    ("get a --node x", "error: --node takes a number of 32 bits in decimal digits\n"),
-    ("get a --pass 01", "error: --pass takes a number of 64 bits in decimal digits\n"),
+    ("get a --node x", "error: --node takes a number of 32 bits in decimal digits without leading zeros\n"),
+    ("get a --pass 01", "error: --pass takes a number of 64 bits in decimal digits without leading zeros\n"),
     ("get a --mode weak", "error: --mode takes strong, eventual, or bounded:K with K of 32 bits\n"),
-    ("set a b --client x", "error: --client takes a number of 64 bits in decimal digits\n"),
-    ("set a b --number 0", "error: --number takes a number of 64 bits in decimal digits, and not 0\n"),
+    ("set a b --client x", "error: --client takes a number of 64 bits in decimal digits without leading zeros\n"),
+    ("set a b --number 0", "error: --number takes a number of 64 bits in decimal digits without leading zeros, and not 0\n"),
     ("get a --unknown", "error: unexpected argument '--unknown' found\n"),
     ("get a --connect localhost", NO_ADDRESS), ("get a --connect 127.0.0.1:99999", NO_ADDRESS),
     ("get a --connect :7000", NO_ADDRESS), ("get a --connect a:070", NO_ADDRESS),
@@ -230,6 +230,9 @@ def values(checks, server, craq, home):
         checks.same(f"craq get raw of {len(value)} bytes", ran([craq, "get", "raw"], env), (0, value, ""))
     found = ran([craq, "set", "raw", "-"], env, b"v" * 4097)
     checks.same("craq set raw - with 4097 bytes", found, (2, b"", "craq: a value has at most 4096 bytes\n"))
+    for value, shown in (b"5\n", "5\\n"), (b"\xc3\xa9", "\\xc3\\xa9"), (b"x" * 65, "x" * 64 + ".."):
+        found = ran([craq, "set", "raw", "-", "--decimal"], env, value)
+        checks.same(f"craq set raw - --decimal with {value}", found, (2, b"", f"{VALUE}'{shown}'\n"))
     status, out, err = ran([craq, "cas", "raw", "4", "-", "--hex"], env, b"00ff")
     checks.same("craq cas raw 4 - --hex", (status, out, err), (0, b"written 5\n", ""))
     for key in b"\xff\x00"[:1], "é \uf7ff".encode(), b"a/b", b"\xf0\x80":
@@ -357,7 +360,8 @@ def lost(checks, server, craq, home):
     address = giving([""])
     words = ["--connect", address, "--node", "1", "set", "lost", "it's"]
     status, out, err = ran([craq, "--client", "6", *words], env)
-    again = re.fullmatch("craq: the connection to .* broke\ncraq: it may have been done. This asks it again, and it is "
+    again = re.fullmatch(r"craq: the connection to .* broke; a server that is full \(--most\) closes each connection\n"
+                         "craq: it may have been done. This asks it again, and it is "
                          "done once:\n  (craq .*)\n", err)
     checks.that((status, out) == (4, b"") and again, f"a lost reply: {status} {out} {err!r}")
     if not again:

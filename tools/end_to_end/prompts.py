@@ -11,7 +11,7 @@ ENTERED = [
     ("read strong k", "read 1 0x61", None),
     ("", None, None),
     ("put 7 2 k b", "refused 9 1", "craq: updates go to the head of the chain, node 1"),
-    ("put 7 x k b", None, "error: expected NUMBER, a number of 64 bits in decimal digits, and found 'x'"),
+    ("put 7 x k b", None, "error: expected NUMBER, a number of 64 bits in decimal digits without leading zeros, and found 'x'"),
     ("deliver 1", None, "error: expected a command, as put, read, status or help, and found 'deliver'"),
     ("watch", None, "error: expected a command, as put, read, status or help, and found 'watch'"),
     ("!1", "refused 9 1", "craq: updates go to the head of the chain, node 1"),
@@ -19,6 +19,8 @@ ENTERED = [
     ("!1", "written 1", None),
     ("!99", None, "error: there is no such line in the history"),
     ("!0", None, "error: there is no such line in the history"),
+    ("quit now", None, "error: expected no more words, and found 'now'"),
+    ("history 3", None, "error: expected no more words, and found '3'"),
     ("node", None, "error: expected node N"),
     ("node 01", None, "error: expected node N with a number of 32 bits"),
     ("status", running.STATUS, None),
@@ -50,6 +52,9 @@ def prompt(checks, server, craq):
     found = entered(command(server, craq), "\n".join(HISTORY) + "\nhistory\nquit\nread strong k\n")
     listed = "".join(f"{at + 1:>5}  {line}\n" for at, line in enumerate(HISTORY))
     checks.that(found[0] == 0 and found[1].endswith(listed), f"craq shell: its history, and its end: {found}")
+    found = subprocess.run(command(server, craq), input=b"\xff\nread eventual k\n", capture_output=True, timeout=running.PATIENCE)
+    checks.same("craq shell: a line that is no text", (found.returncode, found.stdout[:5], found.stderr),
+                (0, b"read ", b"error: the line is not text in UTF-8\n"))
     status, out, err = entered(command(server, craq), "help")
     missing = [it for it in "put tas append prepend inc dec mini read status node pass history help quit".split() if it not in out]
     checks.same("craq shell: help", (status, missing, err), (0, [], ""))

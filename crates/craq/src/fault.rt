@@ -11,6 +11,9 @@ pub const REFUSED: u8 = 3;
 /// The status where there is no connection, it broke, or no reply came in time.
 pub const NO_CONNECTION: u8 = 4;
 
+/// The hint at a server that has as many connections as it may have.
+pub const MAYBE_FULL: &str = "; a server that is full (--most) closes each connection";
+
 /// Where a client's id was looked for.
 #[derive(Clone, Copy, Debug, PartialEq, Eq)]
 pub enum IdSource {
@@ -29,6 +32,8 @@ pub enum Fault {
     Memory,
     /// There is no connection, it broke, or no reply came in time.
     Connection,
+    /// The server closed each connection for 20 seconds.
+    Closed,
     /// The input cannot be read, or the clock gives no time.
     System,
     /// The output takes no text.
@@ -79,6 +84,10 @@ impl Fault {
             Fault::Memory => report_memory(rt, REFUSED),
             Fault::Connection => {
                 eprintln!(rt; "connection")?;
+                Ok(NO_CONNECTION)
+            }
+            Fault::Closed => {
+                eprintln!(rt; "connection\ncraq: the connection broke{MAYBE_FULL}")?;
                 Ok(NO_CONNECTION)
             }
             Fault::System => {

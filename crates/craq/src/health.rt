@@ -193,7 +193,7 @@ fn time<R: Clock>(rt: &R) -> Result<Duration, Failure> {
     }
 }
 
-/// Asks a strong read of a member, and returns what was seen. Fails if the server or this program
+/// Asks a strong read of a member, and returns its outcome. Fails if the server or this program
 /// fails, and not a single member.
 fn look<R>(rt: &R, link: &mut Link<'_>, target: &mut Target, node: NodeId) -> Result<Seen, Failure>
 where
@@ -240,7 +240,7 @@ where
     Ok(Ok(all))
 }
 
-/// Prints the time of the update, or that none was asked; as JSON with what was seen of the members.
+/// Prints the time of the update, or that none was asked; as JSON with the outcomes of the members.
 fn print_update<R: AllocGlobal + Print>(
     rt: &R,
     target: &Target,
@@ -305,7 +305,7 @@ where
     tell(rt, text.as_str())
 }
 
-/// Returns the status by what was seen of the members.
+/// Returns the status by the outcomes of the members.
 fn status_of(members: &[(NodeId, Seen)]) -> u8 {
     if members
         .iter()
@@ -324,7 +324,7 @@ fn status_of(members: &[(NodeId, Seen)]) -> u8 {
 }
 
 /// Times the update unless a member is stopped, behind which it would wait, and prints the rest of
-/// what was seen of the members of the chain of this name. Returns the status.
+/// the outcomes of the members of the chain of this name. Returns the status.
 fn finish<R>(
     rt: &R,
     link: &mut Link<'_>,

@@ -378,7 +378,7 @@ fn json_reasons(alloc: Global, members: &[(NodeId, Seen)]) -> Result<String, All
     Ok(text)
 }
 
-/// Returns what was seen of a chain as the members of a JSON object, without its braces: the times in
+/// Returns the health of a chain as the members of a JSON object, without its braces: the times in
 /// seconds, and why members gave none. Fails only when out of memory.
 pub fn health_json(
     alloc: Global,

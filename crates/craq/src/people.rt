@@ -9,7 +9,7 @@ use crate::health::{OutputForm, examine};
 use crate::identity::{client_id, nanoseconds};
 use crate::link::{Failure, Link};
 use crate::output::{ValueEnd, chains_json, chains_text, reply_json, reply_text};
-use crate::quoting::push_word;
+use crate::quoting::{push_shown, push_word};
 use crate::reporting::{print_json, report_failure, tell, write_out};
 use craq_cli::{
     BAD_INPUT, BadWord, Request, UsageError, ValueForm, Verb, VerbContext, VerbLine, raw_bytes,
@@ -157,9 +157,32 @@ fn kind_of(verb: &Verb) -> Kind {
     }
 }
 
-/// Prints which word of a verb is not what is expected. Returns the status.
-fn report_bad<R: AllocGlobal + Eprint>(rt: &R, bad: &BadWord, words: &[&str]) -> Result<u8, Fault> {
-    let reported = bad.reported(rt.alloc(), words)?;
+/// Returns the text about a wrong value that was read from standard input. Fails only when out of
+/// memory.
+fn input_reported(alloc: Global, bad: &BadWord, bytes: &[u8]) -> Result<String, AllocError> {
+    let mut input = String::new(alloc);
+    push_shown(&mut input, bytes)?;
+    let alone = BadWord {
+        place: 0,
+        expected: bad.expected,
+    };
+    alone.reported(alloc, &[input.as_str()])
+}
+
+/// Prints which word of a verb is not what is expected; instead of a word `-` what was read from
+/// standard input. Returns the status.
+fn report_bad<R: AllocGlobal + Eprint>(
+    rt: &R,
+    setting: &Setting,
+    words: Words<'_>,
+    bad: &BadWord,
+) -> Result<u8, Fault> {
+    let given = words.line.words.as_slice();
+    let is_input = input_place(setting, given) == Some(bad.place);
+    let reported = match words.bytes.get(bad.place) {
+        Some(bytes) if is_input => input_reported(rt.alloc(), bad, bytes)?,
+        _ => bad.reported(rt.alloc(), given)?,
+    };
     tell(rt, reported.as_str())?;
     Ok(BAD_INPUT)
 }
@@ -603,7 +626,7 @@ where
     match check(rt.alloc(), words) {
         Ok(kind) => run_kind(rt, link, setting, words, kind),
         Err(Wrong::Memory) => Err(Fault::Memory),
-        Err(Wrong::Word(bad)) => report_bad(rt, &bad, words.line.words.as_slice()),
+        Err(Wrong::Word(bad)) => report_bad(rt, setting, words, &bad),
         Err(Wrong::Limit(refusal)) => report_limit(rt, refusal),
     }
 }

@@ -44,3 +44,25 @@ pub fn push_word(line: &mut String, alloc: Global, word: &str) -> Result<(), All
     }
     push_quoted(line, word)
 }
+
+/// The most bytes of an input that a message shows.
+const MOST_SHOWN: usize = 64;
+
+/// Appends the first bytes of an input, of which a message says that they are wrong: printable
+/// ASCII as it is, a line feed as `\\n`, and any other byte by its hexadecimal digits.
+pub fn push_shown(text: &mut String, bytes: &[u8]) -> Result<(), AllocError> {
+    for byte in bytes.iter().take(MOST_SHOWN) {
+        let byte = *byte;
+        if byte == b'\n' {
+            text.push_str("\\n")?;
+        } else if b' ' <= byte && byte <= b'~' {
+            text.push(char::from(byte))?;
+        } else {
+            write!(text, "\\x{byte:02x}")?;
+        }
+    }
+    if bytes.len() > MOST_SHOWN {
+        text.push_str("..")?;
+    }
+    Ok(())
+}

@@ -1,6 +1,6 @@
 //! Prints what `craq` tells people: lines on standard error, and output of verbs; for `people` and
 //! `health`.
-use crate::fault::{Fault, NO_CONNECTION, REFUSED};
+use crate::fault::{Fault, MAYBE_FULL, NO_CONNECTION, REFUSED};
 use crate::link::{Failure, Link};
 use craq_names::{Pass, Refusal};
 
@@ -46,7 +46,9 @@ pub fn report_failure<R: AllocGlobal + Eprint>(
         Failure::NoClock => return Err(Fault::System),
         Failure::Refused(refusal) => return report_refused(rt, refusal),
         Failure::Unsent => format!(in rt.alloc(); "no server answers at {address}")?,
-        Failure::Broken => format!(in rt.alloc(); "the connection to {address} broke")?,
+        Failure::Broken => {
+            format!(in rt.alloc(); "the connection to {address} broke{MAYBE_FULL}")?
+        }
         Failure::Late => format!(in rt.alloc(); "no reply came from {address} in time")?,
         Failure::NoReply => format!(in rt.alloc(); "what came from {address} is no reply")?,
     };

@@ -7,8 +7,8 @@ use crate::output::ValueEnd;
 use crate::people::{Setting, run_verb};
 use crate::session::Session;
 use craq_cli::{
-    BadWord, CallLine, CommandFault, Request, Task, UsageError, VERSION, is_verb, report_words,
-    request_of,
+    BadWord, CallLine, CommandFault, Expected, Request, Task, UsageError, VERSION, is_verb,
+    report_words, request_of,
 };
 use craq_names::NodeId;
 use craq_script::{GREATEST_NODE, number_up_to};
@@ -78,6 +78,8 @@ enum Said {
     History,
     Pass,
     Node,
+    /// A word of the prompt with further words, of which it takes none.
+    TooLong,
     Command,
     Verb,
 }
@@ -96,34 +98,33 @@ fn is_shared_command(words: &[&str]) -> bool {
     is_number(client) && is_number(number)
 }
 
+/// Returns the meaning of a word of the prompt that stands alone; `None` for any other word.
+fn own_meaning(word: &str) -> Option<Said> {
+    match word {
+        "help" => Some(Said::Help),
+        "quit" | "exit" => Some(Said::Quit),
+        "history" => Some(Said::History),
+        "pass" => Some(Said::Pass),
+        _ => None,
+    }
+}
+
 /// Reads a line by its words.
 fn meaning_of(words: &[&str]) -> Said {
     let Some(first) = words.first() else {
         return Said::Nothing;
     };
-    let word = first.as_bytes();
-    if word == b"node".as_slice() {
+    if *first == "node" {
         return Said::Node;
     }
     if is_verb(first) && !is_shared_command(words) {
         return Said::Verb;
     }
-    if words.len() > 1 {
-        return Said::Command;
+    match own_meaning(first) {
+        Some(_) if words.len() > 1 => Said::TooLong,
+        Some(own) => own,
+        None => Said::Command,
     }
-    if word == b"help".as_slice() {
-        return Said::Help;
-    }
-    if word == b"quit".as_slice() || word == b"exit".as_slice() {
-        return Said::Quit;
-    }
-    if word == b"history".as_slice() {
-        return Said::History;
-    }
-    if word == b"pass".as_slice() {
-        return Said::Pass;
-    }
-    Said::Command
 }
 
 /// Prints a text.
@@ -247,6 +248,12 @@ fn print_shown<R: Print + Eprint>(
     explain(rt, shown)
 }
 
+/// The word behind one of the prompt that stands alone.
+const NO_MORE_WORDS: BadWord = BadWord {
+    place: 1,
+    expected: Expected::End,
+};
+
 /// Prints the word of a line that is not the one expected there.
 fn print_bad<R: AllocGlobal + Eprint>(rt: &R, bad: &BadWord, words: &[&str]) -> Result<(), Fault> {
     let reported = bad.reported(rt.alloc(), words)?;
@@ -329,6 +336,7 @@ where
         Said::History => print_history(rt, &open.session)?,
         Said::Pass => print_pass(rt, &open.session)?,
         Said::Node => ask_node(rt, &mut open.session, words)?,
+        Said::TooLong => print_bad(rt, &NO_MORE_WORDS, words)?,
         Said::Command => ask(rt, open, words)?,
         Said::Verb => run_verb_line(rt, open, words)?,
     }
@@ -362,14 +370,28 @@ where
     Ok(is_over)
 }
 
-/// Returns the next line of the input, or `None` at its end.
-fn next_line<R: AllocGlobal + Input>(rt: &R) -> Result<Option<String>, Fault> {
+/// The outcome of a read of one line.
+#[derive(Drop)]
+enum Entered {
+    /// A line.
+    Line(String),
+    /// A line that is not UTF-8. The next read takes the line behind it.
+    NotText,
+    /// The end of the input.
+    End,
+}
+
+/// Reads the next line of the input.
+fn next_line<R: AllocGlobal + Input>(rt: &R) -> Result<Entered, Fault> {
     let mut entered = String::new(rt.alloc());
     match rt.read_line(&mut entered) {
-        Ok(0) => Ok(None),
-        Ok(_) => Ok(Some(entered)),
-        Err(error) if error.kind() == ErrorKind::OutOfMemory => Err(Fault::Memory),
-        Err(_) => Err(Fault::System),
+        Ok(0) => Ok(Entered::End),
+        Ok(_) => Ok(Entered::Line(entered)),
+        Err(error) => match error.kind() {
+            ErrorKind::OutOfMemory => Err(Fault::Memory),
+            ErrorKind::InvalidData => Ok(Entered::NotText),
+            _ => Err(Fault::System),
+        },
     }
 }
 
@@ -427,13 +449,18 @@ where
         if entry == Entry::Prompted {
             print_text(rt, "craq> ")?;
         }
-        let Some(entered) = next_line(rt)? else {
-            return print_text(rt, if entry == Entry::Prompted { "\n" } else { "" });
-        };
-        let run = run_entered(rt, open, entered.as_str());
-        drop(entered);
-        if run? {
-            break;
+        match next_line(rt)? {
+            Entered::Line(entered) => {
+                let run = run_entered(rt, open, entered.as_str());
+                drop(entered);
+                if run? {
+                    break;
+                }
+            }
+            Entered::NotText => print_wrong(rt, "the line is not text in UTF-8")?,
+            Entered::End => {
+                return print_text(rt, if entry == Entry::Prompted { "\n" } else { "" });
+            }
         }
     }
     Ok(())

@@ -52,7 +52,7 @@ where
 
 /// Returns the lines of what is watched. Asks again for up to 20 seconds while the server closes each
 /// connection, as one does that has too many.
-fn seen<R>(rt: &R, watched: Watched<'_>) -> Result<String, Failure>
+fn seen<R>(rt: &R, watched: Watched<'_>) -> Result<String, Fault>
 where
     R: AllocGlobal + Clock + Net<Listener = TcpListener, Stream = TcpStream>,
 {
@@ -60,13 +60,16 @@ where
     for _ in 0..MOST_REQUESTS {
         match seen_once(rt, watched, deadline) {
             Err(Failure::Broken) => {}
-            looked => return looked,
+            looked => return Ok(looked?),
         }
         if !deadline.pause(rt, Duration::from_millis(PAUSE_MILLISECONDS)) {
             break;
         }
     }
-    Err(Failure::Broken)
+    Err(match watched {
+        Watched::Status(_) => Fault::Closed,
+        Watched::Positions(_) => Fault::Connection,
+    })
 }
 
 /// Prints lines.

@@ -59,7 +59,7 @@ const LONG_ABOUT: &str = "Asks a server of a replicated object store (craqd), an
 
 The verbs set to health need no option: they find the head, number each update, retry, and print
 what a person wants to see. The commands put to status ask one node exactly one request.
-Without a command there is a prompt, which shows the largest pass by itself.";
+With --connect and no command there is a prompt, which shows the largest pass by itself.";
 
 const HELP: &str = "VERB and its words:
   set KEY VALUE              write the value; VALUE - is read from standard input
@@ -463,7 +463,8 @@ fn command_line<'a>(
 ) -> Result<CallLine<'a>, CommandFault> {
     let (Some(address), Some((node, pass))) = (matches.get_str("connect"), numbers_in(matches))
     else {
-        let reported = "N and P are numbers of 32 and of 64 bits in decimal digits";
+        let reported =
+            "N and P are numbers of 32 and of 64 bits in decimal digits without leading zeros";
         return Err(wrong_words(command, reported)?);
     };
     Ok(CallLine {

@@ -90,10 +90,13 @@ impl Expected {
     const fn reported(self) -> &'static str {
         match self {
             Expected::Command => "a command, as put, read, status or help",
-            Expected::Client => "CLIENT, a number of 64 bits in decimal digits",
-            Expected::Number => "NUMBER, a number of 64 bits in decimal digits",
-            Expected::Version => "VERSION, a number of 64 bits in decimal digits",
-            Expected::By => "BY, a number of 64 bits in decimal digits",
+            Expected::Client =>
+                "CLIENT, a number of 64 bits in decimal digits without leading zeros",
+            Expected::Number =>
+                "NUMBER, a number of 64 bits in decimal digits without leading zeros",
+            Expected::Version =>
+                "VERSION, a number of 64 bits in decimal digits without leading zeros",
+            Expected::By => "BY, a number of 64 bits in decimal digits without leading zeros",
             Expected::Object => {
                 "OBJECT, a key of letters, digits, _ and -, or CHAIN/KEY with a chain of 16 bits"
             }
@@ -105,7 +108,7 @@ impl Expected {
             Expected::Connections => "CONNECTIONS, a number from 1 to 1000",
             Expected::Seconds => "SECONDS, a number from 1 to 86400",
             Expected::Reads => "READS, how many of 100 requests are reads, from 0 to 100",
-            Expected::Node => "NODE, a number of 32 bits in decimal digits",
+            Expected::Node => "NODE, a number of 32 bits in decimal digits without leading zeros",
             Expected::ControlVerb => "one of stop, remove, join, status and help",
             Expected::ChainNode => {
                 "CHAIN/NODE, the name or the index of a chain and a number from 1 to 4294967295"

@@ -97,11 +97,15 @@ impl NumberOption {
     pub(crate) const fn reported(self) -> &'static str {
         match self {
             NumberOption::Connections =>
-                "--connections takes a number of 32 bits in decimal digits",
-            NumberOption::Threads => "--threads takes a number from 0 to 64 in decimal digits",
-            NumberOption::Most => "--most takes a number of 32 bits in decimal digits",
-            NumberOption::Idle => "--idle takes a number of 32 bits in decimal digits",
-            NumberOption::MostLeap => "--most-leap takes a number of 32 bits in decimal digits",
+                "--connections takes a number of 32 bits in decimal digits without leading zeros",
+            NumberOption::Threads =>
+                "--threads takes a number from 0 to 64 in decimal digits without leading zeros",
+            NumberOption::Most =>
+                "--most takes a number of 32 bits in decimal digits without leading zeros",
+            NumberOption::Idle =>
+                "--idle takes a number of 32 bits in decimal digits without leading zeros",
+            NumberOption::MostLeap =>
+                "--most-leap takes a number of 32 bits in decimal digits without leading zeros",
         }
     }
 }

@@ -161,11 +161,14 @@ impl CheckedOption {
     /// Returns what it takes, in words.
     pub(crate) const fn reported(self) -> &'static str {
         match self {
-            CheckedOption::Node => "--node takes a number of 32 bits in decimal digits",
-            CheckedOption::Pass => "--pass takes a number of 64 bits in decimal digits",
-            CheckedOption::Client => "--client takes a number of 64 bits in decimal digits",
+            CheckedOption::Node =>
+                "--node takes a number of 32 bits in decimal digits without leading zeros",
+            CheckedOption::Pass =>
+                "--pass takes a number of 64 bits in decimal digits without leading zeros",
+            CheckedOption::Client =>
+                "--client takes a number of 64 bits in decimal digits without leading zeros",
             CheckedOption::Number => {
-                "--number takes a number of 64 bits in decimal digits, and not 0"
+                "--number takes a number of 64 bits in decimal digits without leading zeros, and not 0"
             }
             CheckedOption::Mode => "--mode takes strong, eventual, or bounded:K with K of 32 bits",
             CheckedOption::Connections => "--connections takes a number from 1 to 1000",

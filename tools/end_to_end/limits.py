@@ -16,13 +16,16 @@ LEAP = 1_048_576
 MANY = 1_500
 # Numbers of the asks for memory that are refused, each in a server of its own.
 REFUSED = range(1, 17)
+# A plan of the largest size, and the most processors that its store may take while nobody asks it.
+LARGE = "".join(f'[[chain]]\nname = "{it}"\nnodes = [1, 2, 3, 4, 5, 6, 7, 8]\n' for it in range(64))
+MOST_IDLE = 0.3
 
 
 class Limited:
     """A craqd with these options, which ends once its standard input does."""
 
-    def __init__(self, craqd, *options, errors=subprocess.PIPE, files=None, env=()):
-        self.file, self.options = running.text_file(running.PLAN), [*running.OPTIONS, *options]
+    def __init__(self, craqd, *options, errors=subprocess.PIPE, files=None, env=(), plan=running.PLAN):
+        self.plan, self.file, self.options = plan, running.text_file(plan), [*running.OPTIONS, *options]
         words = [craqd, "--until-input-ends", *self.options, self.file.name, "127.0.0.1:0"]
         self.process = subprocess.Popen(words, stdin=subprocess.PIPE, stdout=subprocess.PIPE, stderr=errors, env={**os.environ, **dict(env)},
                                         preexec_fn=running.limited(resource.RLIMIT_NOFILE, files))
@@ -46,7 +49,7 @@ class Limited:
         try:
             out, err = self.process.communicate(timeout=running.PATIENCE)
             found = (self.process.returncode, out.decode())
-            served = running.served_line(self.file, self.port, *running.way(self.options)) + re.escape(log)
+            served = running.served_line(self.file, self.port, *running.way(self.options), plan=self.plan) + re.escape(log)
             checks.that(err is None or re.fullmatch(served, err.decode()), f"{what}: on standard error {err!r} and not {served!r}")
         except subprocess.TimeoutExpired:
             found = "no end"
@@ -108,6 +111,24 @@ def idle(checks, craqd):
             time.sleep(0.3)
         checks.same("a connection on which nothing comes", rest(silent), b"")
         server.finish(checks, "a server that waits a second", "")
+
+
+def used(process):
+    """Returns the seconds of processor time that a process used."""
+    with open(f"/proc/{process.pid}/stat", encoding="ascii", errors="replace") as it:
+        return sum(map(int, it.read().rpartition(")")[2].split()[11:13])) / os.sysconf("SC_CLK_TCK")
+
+
+def unasked(checks, craqd):
+    """A store of the largest size takes little processor time while nobody asks it. How little on a quiet machine is measured
+    (`benchmarks/server/idle`), not tested here."""
+    with Limited(craqd, plan=LARGE) as server:
+        time.sleep(2)
+        before, began = used(server.process), time.time()
+        time.sleep(2)
+        share = (used(server.process) - before) / (time.time() - began)
+        checks.that(share <= MOST_IDLE, f"64 chains of 8 nodes that nobody asks take {share:.2f} processors, and may take {MOST_IDLE}")
+        server.finish(checks, "a server of 64 chains", "")
 
 
 def many(checks, craqd):
@@ -252,5 +273,5 @@ def log(checks, craqd):
 
 
 def tried(checks, craqd):
-    for part in most, many, memory, idle, leaps, invented, kept, input_ends, journals, log:
+    for part in most, many, memory, idle, unasked, leaps, invented, kept, input_ends, journals, log:
         checks.part(f"limits: {part.__name__.replace('_', ' ')}", part, craqd)

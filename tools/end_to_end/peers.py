@@ -116,8 +116,6 @@ def latencies(made, seconds):
 def shared(checks, craqd):
     """A client with one request at a time is served beside clients that pipeline: half of its reads
     take less than LIMIT. How little it waits on a quiet machine is measured, not tested here."""
-    if "--threads" not in running.OPTIONS:
-        return
     with Limited(craqd) as server, server.connect() as made:
         made.setsockopt(socket.IPPROTO_TCP, socket.TCP_NODELAY, 1)
         stop = multiprocessing.Event()

@@ -5,16 +5,29 @@ import re
 from tools.end_to_end import running
 from tools.end_to_end.clients import Client
 
-# The program, and its changes: a file of crates/, a text that occurs in it once, and the text that replaces it.
+# The program, and its changes: a file of crates/, a text that occurs in it once, and the text that
+# replaces it.
 PROGRAM = "craqd_misaudited"
 CHANGES = [
     # Each chain is audited with the receipts of the one beside it, also where no journals are kept,
-    ("craqd/src/audits.rt", "print_audit_of(rt, store, ChainId::new(chain), ", "print_audit_of(rt, store, ChainId::new(chain ^ 1), "),
+    (
+        "craqd/src/audits.rt",
+        "print_audit_of(rt, store, ChainId::new(chain), ",
+        "print_audit_of(rt, store, ChainId::new(chain ^ 1), ",
+    ),
     ("craqd/src/serving.rt", "if store.has_journals() {", "if true {"),
     # no message of node 77 was sent,
-    ("craq_audit/src/senders.rt", "Event::Deliver(message) => was_sent(", "Event::Deliver(message) => message.sender.get() != 77 && was_sent("),
+    (
+        "craq_audit/src/senders.rt",
+        "Event::Deliver(message) => was_sent(",
+        "Event::Deliver(message) => message.sender.get() != 77 && was_sent(",
+    ),
     # and the journals of chain 2 are those of other nodes.
-    ("craq_audit/src/auditing.rt", "if !are_of_chain(book, cells) {", "if book.opening().name.chain.get() == 2 || !are_of_chain(book, cells) {"),
+    (
+        "craq_audit/src/auditing.rt",
+        "if !are_of_chain(book, cells) {",
+        "if book.opening().name.chain.get() == 2 || !are_of_chain(book, cells) {",
+    ),
 ]
 TWO = """\
 [[chain]]
@@ -25,7 +38,9 @@ nodes = [77, 78]
 name = "b"
 nodes = [1]
 """
-FOUR = TWO + """
+FOUR = (
+    TWO
+    + """
 [[chain]]
 name = "c"
 nodes = [2]
@@ -34,9 +49,10 @@ nodes = [2]
 name = "d"
 nodes = [3]
 """
+)
 # The number of chains, and whether they keep journals; the lines of the audits of chains 1, 0 and 3, by a
-# pattern since ticks may come to node 78 before the put does; the number with which the next audit is refused,
-# if one is; and the status.
+# pattern since ticks may come to node 78 before the put does; the number with which the next audit is
+# refused, if one is; and the status.
 FAULTS = "audit noreceipt 0\naudit nosender 78 [0-9]+\n"
 ENDS = (TWO, True, FAULTS, None, 0), (FOUR, True, f"{FAULTS}audit merged 0\n", 23, 5), (TWO, False, "", 24, 5)
 

@@ -28,20 +28,27 @@ NOTHING = {
     "Many in Many": "0204 01 04 01 03",
     "Many with a bad second request": "0204 02 03 02 00000003 0000000000000000 04 0000 016b",
     "a status with a byte more": "0103 00",
-    "an update with number 0": "0101 00000001 0000000000000000 00000000000000ff 0000000000000000 01 0000 016b 000161",
+    "an update with number 0": "0101 00000001 0000000000000000 00000000000000ff "
+    "0000000000000000 01 0000 016b 000161",
     "command 0": "0101 00000001 0000000000000000 00000000000000ff 0000000000000001 00 0000 016b 000161",
     "command 8": "0101 00000001 0000000000000000 00000000000000ff 0000000000000001 08 0000 016b 000161",
     "an empty key": "0102 00000003 0000000000000000 01 0000 00",
     "a key of 129": "0102 00000003 0000000000000000 01 0000 81" + "6b" * 129,
-    "a value of 4,097": "0101 00000001 0000000000000000 00000000000000ff 0000000000000001 01 0000 016b 1001" + "61" * 4097,
-    "a value longer than what is there": "0101 00000001 0000000000000000 00000000000000ff 0000000000000001 01 0000 016b ffff61",
+    "a value of 4,097": "0101 00000001 0000000000000000 00000000000000ff 0000000000000001 01 0000 016b 1001"
+    + "61" * 4097,
+    "a value longer than what is there": "0101 00000001 0000000000000000 00000000000000ff "
+    "0000000000000001 01 0000 016b ffff61",
     "mode 0": "0102 00000003 0000000000000000 00 0000 016b",
     "mode 4": "0102 00000003 0000000000000000 04 0000 016b",
     "a bound without its number": "0102 00000003 0000000000000000 03 0000 016b",
     "an empty transaction": "0101 00000001 0000000000000000 00000000000000ff 0000000000000001 07 00 00 00",
-    "a transaction with an object twice": "0101 00000001 0000000000000000 00000000000000ff 0000000000000001 07 00 02 0000 016b 0000 016b 00",
-    "a list of 17": "0101 00000001 0000000000000000 00000000000000ff 0000000000000001 07 00 11" + "".join(f"0000 01{i:02x}" for i in range(17)) + "00",
-    "a list of 255 that is not there": "0101 00000001 0000000000000000 00000000000000ff 0000000000000001 07 ff",
+    "a transaction with an object twice": "0101 00000001 0000000000000000 00000000000000ff "
+    "0000000000000001 07 00 02 0000 016b 0000 016b 00",
+    "a list of 17": "0101 00000001 0000000000000000 00000000000000ff 0000000000000001 07 00 11"
+    + "".join(f"0000 01{i:02x}" for i in range(17))
+    + "00",
+    "a list of 255 that is not there": "0101 00000001 0000000000000000 00000000000000ff "
+    "0000000000000001 07 ff",
 }
 
 
@@ -66,8 +73,12 @@ def closed_streams(checks, craqd):
     wanted = framed(bytes.fromhex("0104") + framed(running.STATUS.encode())) * 2
     for closed in "<&-", "2>&-", "<&- 2>&-":
         with running.text_file(running.PLAN) as file:
-            words = " ".join([craqd, "--log", "--connections", "2", *running.OPTIONS, file.name, "127.0.0.1:0"])
-            with subprocess.Popen(["bash", "-c", f"exec {words} {closed}"], stdout=subprocess.PIPE, stderr=subprocess.DEVNULL) as process:
+            words = " ".join(
+                [craqd, "--log", "--connections", "2", *running.OPTIONS, file.name, "127.0.0.1:0"]
+            )
+            with subprocess.Popen(
+                ["bash", "-c", f"exec {words} {closed}"], stdout=subprocess.PIPE, stderr=subprocess.DEVNULL
+            ) as process:
                 port = int(process.stdout.readline().split()[1])
                 for _ in range(2):
                     with socket.create_connection(("127.0.0.1", port), running.PATIENCE) as made:
@@ -77,14 +88,21 @@ def closed_streams(checks, craqd):
                 checks.same(f"the end of a craqd with {closed}", process.wait(running.PATIENCE), 0)
     with running.text_file(running.PLAN) as file:
         found = running.ended(["bash", "-c", f"exec {craqd} {file.name} 127.0.0.1:0 >&-"])
-        checks.same("a craqd without standard output", (found[0], found[2].splitlines()[-1:]), (1, ["cannot print"]))
+        checks.same(
+            "a craqd without standard output", (found[0], found[2].splitlines()[-1:]), (1, ["cannot print"])
+        )
 
 
 def no_requests(checks, server):
     """Each is answered by itself, and a good request after it as ever."""
     bad = [bytes.fromhex(it) for it in NOTHING.values()]
     bad += [payload[:size] for payload in (PUT, READ, STATUS) for size in range(len(payload))]
-    bad += [bytes([version]) + payload[1:] for payload in (PUT, READ, STATUS) for version in range(256) if version not in (1, 2)]
+    bad += [
+        bytes([version]) + payload[1:]
+        for payload in (PUT, READ, STATUS)
+        for version in range(256)
+        if version not in (1, 2)
+    ]
     bad += [bytes([version, kind]) + READ[2:] for version in (1, 2) for kind in (0, 3, 4, 5, 6, 255)]
     bad += [b"\0" * LIMIT, random.Random(1).randbytes(LIMIT)]
     good = framed(bytes.fromhex("0104") + framed(running.STATUS.encode()))
@@ -152,12 +170,13 @@ def garbage_of(draw):
     if pick == 1:
         return framed(b"\x07" + draw.randbytes(draw.randrange(1, 3000))), NO_REQUEST
     if pick == 2:
-        return framed(READ)[:draw.randrange(4, 20)], b""
+        return framed(READ)[: draw.randrange(4, 20)], b""
     return b"GET / HTTP/1.1\r\nHost: localhost\r\n\r\n", TOO_LONG
 
 
 def garbage(checks, server, count):
-    """Opens `count` connections that send garbage, some of them at once; resets every third without a word."""
+    """Opens `count` connections that send garbage, some of them at once; resets every third without a
+    word."""
     draw = random.Random(2)
     for first in range(0, count, 100):
         some = [(server.connect(), *garbage_of(draw)) for _ in range(min(100, count - first))]
@@ -168,7 +187,7 @@ def garbage(checks, server, count):
                 made.setsockopt(socket.SOL_SOCKET, socket.SO_LINGER, struct.pack("ii", 1, 0))
             else:
                 made.shutdown(socket.SHUT_WR)
-                checks.same(f"garbage {sent[:20].hex()}", rest(made)[:len(TOO_LONG)], wanted)
+                checks.same(f"garbage {sent[:20].hex()}", rest(made)[: len(TOO_LONG)], wanted)
             made.close()
         serves(checks, server, f"after {first + 100} connections with garbage")
 

@@ -1,5 +1,5 @@
-"""A client of one connection (tools/plain_client.py): versions 1 and 2, eight clients at once, requests that do not wait for replies, lost
-replies; and the command of clients/python."""
+"""A client of one connection (tools/plain_client.py): versions 1 and 2, eight clients at once, requests
+that do not wait for replies, lost replies; and the command of clients/python."""
 import os
 import re
 import socket
@@ -9,19 +9,38 @@ import threading
 from tools import plain_client as example
 from tools import repository
 from tools.end_to_end import running
-from tools.plain_client import (Client, CompareFailed, Done, Mismatch, NotANumber, Overflow, Read, Refused,
-                                Stale, TooLong, Underflow, Written)
+from tools.plain_client import (
+    Client,
+    CompareFailed,
+    Done,
+    Mismatch,
+    NotANumber,
+    Overflow,
+    Read,
+    Refused,
+    Stale,
+    TooLong,
+    Underflow,
+    Written,
+)
 
 AT_ONCE, ROUNDS = 8, 25
 # The id of the command: no other client has it.
-CLIENT = 0xc0de
+CLIENT = 0xC0DE
 WORKED = [
     ("put", example.one(1, example.update_request(1, 0, 1, 1, example.put(0, "k", b"a")))),
     ("read", example.one(1, example.read_request(3, 9, example.STRONG, 0, "k"))),
     ("read in version 2", example.one(2, example.read_request(3, 9, example.STRONG, 0, "k"))),
     ("status", example.one(1, (example.STATUS, b""))),
-    ("many", example.many([
-        example.update_request(1, 0, 1, 1, example.put(0, "k", b"a")), example.read_request(3, 0, example.STRONG, 0, "k")])),
+    (
+        "many",
+        example.many(
+            [
+                example.update_request(1, 0, 1, 1, example.put(0, "k", b"a")),
+                example.read_request(3, 0, example.STRONG, 0, "k"),
+            ]
+        ),
+    ),
     ("tas", example.test_and_set(0, "k", 2, b"b")),
     ("append", example.append(1, "list", b"cd")),
     ("prepend", example.prepend(1, "list", b"")),
@@ -39,7 +58,10 @@ def page(checks):
         worked = {cell.replace(" ", "") for cell in re.findall(r"`([0-9a-f ]+)`", it.read())}
     for what, payload in WORKED:
         framed = len(payload).to_bytes(4, "big") + payload
-        checks.that({payload.hex(), framed.hex()} & worked, f"docs/use/BYTES.md has the bytes of {what}: {payload.hex()}")
+        checks.that(
+            {payload.hex(), framed.hex()} & worked,
+            f"docs/use/BYTES.md has the bytes of {what}: {payload.hex()}",
+        )
 
 
 class Counted:
@@ -87,10 +109,14 @@ CALLS = [
     ("inc", ["{}"], {}, NotANumber()),
     ("inc", ["{}.n", 258], {}, Written(1)),
     ("dec", ["{}.n", 259], {}, Underflow()),
-    ("inc", ["{}.n", 2 ** 64 - 1], {}, Overflow()),
+    ("inc", ["{}.n", 2**64 - 1], {}, Overflow()),
     ("dec", ["{}.n", 2], {}, Written(2)),
-    ("mini", [[("{}", 4)], ["{}", "{}.n", "{}.z"], [("{}", b"d"), ("{}.m", b"")]], {},
-     Done([Read(4, b"abc"), Read(2, b"\0\0\0\0\0\0\1\0"), Read(0, b"")])),
+    (
+        "mini",
+        [[("{}", 4)], ["{}", "{}.n", "{}.z"], [("{}", b"d"), ("{}.m", b"")]],
+        {},
+        Done([Read(4, b"abc"), Read(2, b"\0\0\0\0\0\0\1\0"), Read(0, b"")]),
+    ),
     ("mini", [[("{}.m", 1), ("{}", 4)], [], [("{}", b"e")]], {}, CompareFailed(1)),
     ("read", ["{}"], {}, Read(5, b"d")),
     ("put", ["{}", b"z"], {"request": 1}, Stale(13)),
@@ -117,7 +143,9 @@ def calls(checks, server, version, chain):
         shown = made.client.shown
         found = made.ask(call, *named(words, f"calls{version}"), **more)
         checks.same(f"{call} in version {version} on chain {chain}", found, wanted)
-        checks.that(isinstance(found, tuple) or made.client.shown > shown, f"the pass rises in version {version}")
+        checks.that(
+            isinstance(found, tuple) or made.client.shown > shown, f"the pass rises in version {version}"
+        )
     made.close()
 
 
@@ -126,12 +154,21 @@ def batches(checks, server):
     made = Counted(server, 2)
     client = made.client
     asks = [client.asks_put("batch", b"%d" % at) for at in range(3)] + [client.asks_read("batch", node=1)]
-    told = made.many(asks + [client.asks_read("batch", node=99), client.asks_read("batch", chain=9, node=1), (example.STATUS, b"")])
+    told = made.many(
+        asks
+        + [
+            client.asks_read("batch", node=99),
+            client.asks_read("batch", chain=9, node=1),
+            (example.STATUS, b""),
+        ]
+    )
     checks.same("a batch", told[:4], [Written(1), Written(2), Written(3), Read(3, b"2")])
     checks.same("refused ones in it", [(it.number, it.detail) for it in told[4:6]], [(23, 0), (7, 0)])
     checks.same("the status in it", told[6:], [running.STATUS])
     made.asks -= 1
-    told = made.many([client.asks_put("batch", b"x" * 4096)] + [client.asks_read("batch", node=1) for _ in range(7)])
+    told = made.many(
+        [client.asks_put("batch", b"x" * 4096)] + [client.asks_read("batch", node=1) for _ in range(7)]
+    )
     checks.same("a batch of great values", told, [Written(4)] + [Read(4, b"x" * 4096)] * 7)
     checks.same("a batch of one", made.many([client.asks_read("batch", node=3)]), [Read(4, b"x" * 4096)])
     made.close()
@@ -159,9 +196,16 @@ def one_of_many(server, at, seen, faults):
         members = client.chains[0]["members"]
         for turn in range(ROUNDS):
             if client.version == 2:
-                wrote, found = made.many([client.asks_update(0, example.increment(0, "shared", 1)), client.asks_read("shared", node=members[0])])
+                wrote, found = made.many(
+                    [
+                        client.asks_update(0, example.increment(0, "shared", 1)),
+                        client.asks_read("shared", node=members[0]),
+                    ]
+                )
             else:
-                wrote, found = made.ask("inc", "shared"), made.ask("read", "shared", node=members[turn % len(members)])
+                wrote, found = made.ask("inc", "shared"), made.ask(
+                    "read", "shared", node=members[turn % len(members)]
+                )
             seen.append(wrote.version)
             if found.version < wrote.version or found.value != found.version.to_bytes(8, "big"):
                 faults.append(f"{found} after {wrote}")
@@ -177,7 +221,10 @@ def one_of_many(server, at, seen, faults):
 
 def at_once(checks, server):
     seen, faults = [], []
-    threads = [threading.Thread(target=one_of_many, args=(server, at, seen, faults), daemon=True) for at in range(AT_ONCE)]
+    threads = [
+        threading.Thread(target=one_of_many, args=(server, at, seen, faults), daemon=True)
+        for at in range(AT_ONCE)
+    ]
     for it in threads:
         it.start()
     for it in threads:
@@ -187,13 +234,18 @@ def at_once(checks, server):
     checks.same("eight clients at once: versions", sorted(seen), list(range(1, count + 1)))
     made = Counted(server, 1)
     for node in made.client.chains[0]["members"]:
-        checks.same(f"their sum at node {node}", made.ask("read", "shared", node=node), Read(count, count.to_bytes(8, "big")))
+        checks.same(
+            f"their sum at node {node}",
+            made.ask("read", "shared", node=node),
+            Read(count, count.to_bytes(8, "big")),
+        )
         checks.same(f"their swaps at node {node}", made.ask("read", "swapped", node=node).version, count)
     made.close()
 
 
 class Cutting:
-    """A server's address that passes requests and replies on, but ends the connection in place of the first replies to updates."""
+    """A server's address that passes requests and replies on, but ends the connection in place of the
+    first replies to updates."""
 
     def __init__(self, server, cuts):
         self.server, self.cuts, self.connections, self.asked = server, cuts, 0, 0
@@ -258,7 +310,11 @@ COMMANDS = [
     (["txn", "c:worded:1", "r:worded", "w:worded:green"], 0, "done\n1 blue\n"),
     (["txn", "c:worded:1", "r:worded"], 5, "comparefailed 0\n"),
     (["get", "worded", "--json"], 0, '{"reply": "read", "version": 2, "value": "green", "pass": N}\n'),
-    (["set", "worded", "red", "--node", "3"], 3, "jilsdau: refused 9 NotHead 1: updates go to the head, node 1\n"),
+    (
+        ["set", "worded", "red", "--node", "3"],
+        3,
+        "jilsdau: refused 9 NotHead 1: updates go to the head, node 1\n",
+    ),
     (["--chain", "9", "get", "worded"], 3, "jilsdau: refused 7 UnknownChain: there is no such chain\n"),
     (["members"], 0, "a: 1 2 3\nb: 4 5\n"),
     (["health", "--chain", "b"], 0, "node 4 N ms\nnode 5 N ms\nupdate N ms\n"),
@@ -269,7 +325,9 @@ def worded(checks, server):
     """Runs the command of clients/python. Its answer is on standard output, a refusal on standard error."""
     for words, wanted_status, wanted in COMMANDS:
         server.counts()
-        status, out, err = running.ended(["env", f"CRAQ_CLIENT={CLIENT}", sys.executable, COMMAND, "--connect", server.address, *words])
+        status, out, err = running.ended(
+            ["env", f"CRAQ_CLIENT={CLIENT}", sys.executable, COMMAND, "--connect", server.address, *words]
+        )
         found = re.sub('(pass|ms|update|node [0-9]+|"pass":) [0-9.]+', r"\1 N", out + err)
         checks.same(" ".join(words), (status, found), (wanted_status, wanted))
     server.answers(0, 9)

@@ -1,7 +1,7 @@
 """craq: every command, every refusal that it can meet, every fault.
 
-A row is the node, the words of the command, and what has to be printed: an answer, or 'refused ..'. Texts are written
-from docs/use/SCRIPTS.md and docs/use/CRAQ.md, never from what a program printed.
+A row is the node, the words of the command, and what has to be printed: an answer, or 'refused ..'.
+Texts are written from docs/use/SCRIPTS.md and docs/use/CRAQ.md, never from what a program printed.
 """
 import re
 import socket
@@ -92,19 +92,53 @@ ROWS = [
 
 # Words that are no command: the word that is wrong, or None where one is missing, and what is expected there.
 NO_COMMAND = [
-    ("put 1 1 k", None, "VALUE"), ("put 1 0 k", None, "VALUE"), ("put 1 1 k a b", "b", "no more words"), ("put 01 1 k a", "01", "CLIENT"),
-    ("put 1 -1 k a", "-1", "NUMBER"), ("put x y k", "x", "CLIENT"), ("put 1 1 65536/k a", "65536/k", "OBJECT"), ("put 1 1 k. a", "k.", "OBJECT"),
-    ("put 1 1 k 0x6", "0x6", "VALUE"), ("put 1 1 k 0xAB", "0xAB", "VALUE"), (f"put 1 {MAX}0 k a", MAX + "0", "NUMBER"), ("put", None, "CLIENT"),
-    ("append 1 1 k", None, "VALUE"), ("prepend 1 1", None, "OBJECT"), ("tas 1 1 k a", "a", "VERSION"), ("tas 1 1 k 2", None, "VALUE"),
-    ("tas 1 1 k 2 a b", "b", "no more words"), ("inc 1 1 k", None, "BY"), ("inc 1 1 k x", "x", "BY"), ("dec 1 1 k 1 1", "1", "no more words"),
-    ("mini 1", None, "NUMBER"), ("mini 1 1 k", "k", "ITEM"), ("mini 1 1 r:k x:k", "x:k", "ITEM"), ("mini 1 1 w:k:", "w:k:", "ITEM"),
-    ("read k", "k", "MODE"), ("read weak k", "weak", "MODE"), ("read bounded:x k", "bounded:x", "MODE"), ("read strong", None, "OBJECT"),
-    ("read bounded:4294967296 k", "bounded:4294967296", "MODE"), ("read strong k k", "k", "no more words"), ("deliver 1", "deliver", "a command"),
-    ("tick 1", "tick", "a command"), ("stop 1", "stop", "a command"), ("remove 1", "remove", "a command"), ("join 6", "join", "a command"),
-    ("explain", "explain", "a command"), ("status now", "now", "no more words"), ("shell now", "now", "no more words"),
-    ("watch 0", "0", "SECONDS"), ("watch 86401", "86401", "SECONDS"), ("watch 1 1", "1", "no more words"), ("bench 5", None, "SECONDS"),
-    ("bench 0 1 50", "0", "CONNECTIONS"), ("bench 1001 1 50", "1001", "CONNECTIONS"), ("bench 1 0 50", "0", "SECONDS"),
-    ("bench 1 1 101", "101", "READS"), ("bench 1 1 50 1", "1", "no more words"),
+    ("put 1 1 k", None, "VALUE"),
+    ("put 1 0 k", None, "VALUE"),
+    ("put 1 1 k a b", "b", "no more words"),
+    ("put 01 1 k a", "01", "CLIENT"),
+    ("put 1 -1 k a", "-1", "NUMBER"),
+    ("put x y k", "x", "CLIENT"),
+    ("put 1 1 65536/k a", "65536/k", "OBJECT"),
+    ("put 1 1 k. a", "k.", "OBJECT"),
+    ("put 1 1 k 0x6", "0x6", "VALUE"),
+    ("put 1 1 k 0xAB", "0xAB", "VALUE"),
+    (f"put 1 {MAX}0 k a", MAX + "0", "NUMBER"),
+    ("put", None, "CLIENT"),
+    ("append 1 1 k", None, "VALUE"),
+    ("prepend 1 1", None, "OBJECT"),
+    ("tas 1 1 k a", "a", "VERSION"),
+    ("tas 1 1 k 2", None, "VALUE"),
+    ("tas 1 1 k 2 a b", "b", "no more words"),
+    ("inc 1 1 k", None, "BY"),
+    ("inc 1 1 k x", "x", "BY"),
+    ("dec 1 1 k 1 1", "1", "no more words"),
+    ("mini 1", None, "NUMBER"),
+    ("mini 1 1 k", "k", "ITEM"),
+    ("mini 1 1 r:k x:k", "x:k", "ITEM"),
+    ("mini 1 1 w:k:", "w:k:", "ITEM"),
+    ("read k", "k", "MODE"),
+    ("read weak k", "weak", "MODE"),
+    ("read bounded:x k", "bounded:x", "MODE"),
+    ("read strong", None, "OBJECT"),
+    ("read bounded:4294967296 k", "bounded:4294967296", "MODE"),
+    ("read strong k k", "k", "no more words"),
+    ("deliver 1", "deliver", "a command"),
+    ("tick 1", "tick", "a command"),
+    ("stop 1", "stop", "a command"),
+    ("remove 1", "remove", "a command"),
+    ("join 6", "join", "a command"),
+    ("explain", "explain", "a command"),
+    ("status now", "now", "no more words"),
+    ("shell now", "now", "no more words"),
+    ("watch 0", "0", "SECONDS"),
+    ("watch 86401", "86401", "SECONDS"),
+    ("watch 1 1", "1", "no more words"),
+    ("bench 5", None, "SECONDS"),
+    ("bench 0 1 50", "0", "CONNECTIONS"),
+    ("bench 1001 1 50", "1001", "CONNECTIONS"),
+    ("bench 1 0 50", "0", "SECONDS"),
+    ("bench 1 1 101", "101", "READS"),
+    ("bench 1 1 50 1", "1", "no more words"),
 ]
 
 # Values that fit no script line: an empty one, and characters other than printable ASCII.
@@ -118,16 +152,27 @@ MIXED = [
     ("--connect 127.0.0.1:0 --node 1 put 1 1 k v".split(), NO_ADDRESS),
     ("--connect :7000 shell".split(), NO_ADDRESS),
     ("watch 1 --metrics 7004".split(), NO_ADDRESS),
-    ("--connect 127.0.0.1:1 --node 4 --chain b put 1 1 k v".split(), "error: options of verbs do not go with commands\n"),
-    ("--connect 127.0.0.1:1 --node 1 --json status".split(), "error: options of verbs do not go with commands\n"),
+    (
+        "--connect 127.0.0.1:1 --node 4 --chain b put 1 1 k v".split(),
+        "error: options of verbs do not go with commands\n",
+    ),
+    (
+        "--connect 127.0.0.1:1 --node 1 --json status".split(),
+        "error: options of verbs do not go with commands\n",
+    ),
     ([], "Asks a server of a replicated object store, and prints its answer\n"),
 ]
 
 # Command lines that are none, without the address.
 NO_LINE = [
-    [], ["read", "strong", "k"], ["--node", "01", "read", "strong", "k"], ["--node", "x", "read", "strong", "k"],
-    ["--node", "4294967296", "read", "strong", "k"], ["--node", "1", "--pass", "-1", "read", "strong", "k"],
-    ["--node", "1", "--pass", MAX + "0", "read", "strong", "k"], ["--node", "1", "--unknown", "read", "strong", "k"],
+    [],
+    ["read", "strong", "k"],
+    ["--node", "01", "read", "strong", "k"],
+    ["--node", "x", "read", "strong", "k"],
+    ["--node", "4294967296", "read", "strong", "k"],
+    ["--node", "1", "--pass", "-1", "read", "strong", "k"],
+    ["--node", "1", "--pass", MAX + "0", "read", "strong", "k"],
+    ["--node", "1", "--unknown", "read", "strong", "k"],
 ]
 
 # Replies that no server sends, after which the connection is of no use.
@@ -144,13 +189,17 @@ NO_REPLY = {
 
 # The words of refusals on standard error.
 WORDS = {
-    1: "a key has 1 to 128 bytes", 2: "a value has at most 4096 bytes",
+    1: "a key has 1 to 128 bytes",
+    2: "a value has at most 4096 bytes",
     3: "each list of a transaction has at most 16 items",
     4: "a transaction compares, reads or writes at least one object",
-    5: "an object occurs twice in one list of the transaction", 6: "request numbers begin at 1",
-    7: "there is no such chain", 8: "the objects are not all in the chain that was named",
+    5: "an object occurs twice in one list of the transaction",
+    6: "request numbers begin at 1",
+    7: "there is no such chain",
+    8: "the objects are not all in the chain that was named",
     9: "updates go to the head of the chain, node {}",
-    13: "a counter is at its greatest value, or the pass is too large", 14: "out of memory",
+    13: "a counter is at its greatest value, or the pass is too large",
+    14: "out of memory",
     23: "there is no such node here",
 }
 
@@ -166,7 +215,15 @@ def chain_of(words):
 
 
 def asked(craq, address, node, words, shown=None):
-    line = [craq, "--connect", address, "--node", str(node), *(["--pass", str(shown)] if shown is not None else []), *words.split(" ")]
+    line = [
+        craq,
+        "--connect",
+        address,
+        "--node",
+        str(node),
+        *(["--pass", str(shown)] if shown is not None else []),
+        *words.split(" "),
+    ]
     return running.ended(line)
 
 
@@ -210,9 +267,15 @@ def rows(checks, server, craq):
 
 
 def is_told(err, wrong, expected):
-    """Returns whether standard error has `script line 1`, then what was expected, and what stands there instead."""
+    """Returns whether standard error has `script line 1`, then what was expected, and what stands there
+    instead."""
     found = "the end of the words" if wrong is None else f"'{wrong}'"
-    return re.match(rf"script line 1\nerror: expected {expected}(, [^\n]*)?, and found {re.escape(found)}\n", err) is not None
+    return (
+        re.match(
+            rf"script line 1\nerror: expected {expected}(, [^\n]*)?, and found {re.escape(found)}\n", err
+        )
+        is not None
+    )
 
 
 def no_commands(checks, craq, nowhere):
@@ -221,7 +284,9 @@ def no_commands(checks, craq, nowhere):
         status, out, err = asked(craq, nowhere, 1, words)
         checks.same(f"craq {words}", (status, out, is_told(err, wrong, expected)), (2, "", True))
     for value in NO_VALUES:
-        status, out, err = running.ended([craq, "--connect", nowhere, "--node", "1", "put", "1", "1", "k", value])
+        status, out, err = running.ended(
+            [craq, "--connect", nowhere, "--node", "1", "put", "1", "1", "k", value]
+        )
         checks.same(f"craq put 1 1 k {value!r}", (status, out, is_told(err, value, "VALUE")), (2, "", True))
         item = f"w:k:{value}"
         status, out, err = running.ended([craq, "--connect", nowhere, "--node", "1", "mini", "1", "1", item])
@@ -241,17 +306,24 @@ def no_server(checks, craq, nowhere):
     checks.same("craq where nothing listens", asked(craq, nowhere, 1, "read strong k"), fault)
     for words, refusal in (f"put 1 0 {LONG_KEY} a", 1), ("put 1 0 k a", 6):
         found = asked(craq, nowhere, 1, words)
-        checks.same(f"craq {words[:9]} where nothing listens", found, (3, f"refused {refusal}\n", words_of(f"refused {refusal}")))
+        checks.same(
+            f"craq {words[:9]} where nothing listens",
+            found,
+            (3, f"refused {refusal}\n", words_of(f"refused {refusal}")),
+        )
     for what, reply in NO_REPLY.items():
         found = asked_of(craq, bytes.fromhex(reply))
         checks.same(f"craq to whom {what} is sent", found, fault)
     found = asked_of(craq, bytes.fromhex("0000000b 0103 0e 0000000000000000"))
-    checks.same("craq to whom a server without memory replies", found, (3, "refused 14\n", words_of("refused 14")))
+    checks.same(
+        "craq to whom a server without memory replies", found, (3, "refused 14\n", words_of("refused 14"))
+    )
 
 
 def asked_of(craq, reply):
     """Returns the status and the output of craq when a server sends it this instead of a reply."""
     with socket.create_server(("127.0.0.1", 0)) as listener:
+
         def give():
             made, _ = listener.accept()
             with made:
@@ -267,11 +339,19 @@ def asked_of(craq, reply):
 
 
 def helps(checks, craq, craqd):
-    for program, words in (craq, "set get cas append prepend add sub txn members health put tas append prepend inc dec mini read status shell watch bench "
-                              "--connect --node --pass --chain --client --number --hex --decimal --json --print-pass --connections --seconds --mix --keys --size --metrics"), (craqd, "--journal --connections --control --metrics stop remove join CHAIN/NODE PLAN ADDRESS"):
+    for program, words in (
+        craq,
+        "set get cas append prepend add sub txn members health put tas append prepend inc dec mini read "
+        "status shell watch bench "
+        "--connect --node --pass --chain --client --number --hex --decimal --json --print-pass --connections "
+        "--seconds --mix --keys --size --metrics",
+    ), (craqd, "--journal --connections --control --metrics stop remove join CHAIN/NODE PLAN ADDRESS"):
         status, out, err = running.ended([program, "--help"])
         missing = [it for it in words.split() if it not in out]
         name = program.rpartition("/")[2]
         checks.same(f"{name} --help", (status, missing, err), (0, [], ""))
         status, out, err = running.ended([program, "--version"])
-        checks.that(status == 0 and re.fullmatch(r"craqd? [0-9]+\.[0-9]+\.[0-9]+\n", out) and not err, f"{name} --version: {status} {out!r} {err!r}")
+        checks.that(
+            status == 0 and re.fullmatch(r"craqd? [0-9]+\.[0-9]+\.[0-9]+\n", out) and not err,
+            f"{name} --version: {status} {out!r} {err!r}",
+        )

@@ -7,13 +7,15 @@ import time
 from tools import plain_client as example
 from tools.end_to_end import running
 
-# Number of nodes that are replaced; CLIENTS at once count up and read in each chain, each at least STEPS times in a round, and
-# pause PAUSE seconds after each.
+# Number of nodes that are replaced; CLIENTS at once count up and read in each chain, each at least
+# STEPS times in a round, and pause PAUSE seconds after each.
 ROUNDS, CLIENTS, STEPS, PAUSE = 100, 2, 3, 0.002
 # Tries of a request, whose pauses grow to seconds: a chain stands still from a stop to the removal.
 TRIES = 20
-PLAN = "".join(f'[[chain]]\nname = "{name}"\nnodes = {nodes}\n\n'
-               for name, nodes in (("left", [1, 2, 3]), ("middle", [1, 2, 3]), ("right", [7, 8, 9])))
+PLAN = "".join(
+    f'[[chain]]\nname = "{name}"\nnodes = {nodes}\n\n'
+    for name, nodes in (("left", [1, 2, 3]), ("middle", [1, 2, 3]), ("right", [7, 8, 9]))
+)
 NODE = "CHAIN/NODE, the name or the index of a chain and a number from 1 to 4294967295"
 VERB = "one of stop, remove, join, status and help"
 END = "the end of the words"
@@ -22,8 +24,13 @@ END = "the end of the words"
 ROWS = [
     ("", []),
     ("   ", []),
-    ("status", ["chain a, index 0, epoch 1, node 1 ready, node 2 ready, node 3 ready",
-                "chain b, index 1, epoch 1, node 4 ready, node 5 ready"]),
+    (
+        "status",
+        [
+            "chain a, index 0, epoch 1, node 1 ready, node 2 ready, node 3 ready",
+            "chain b, index 1, epoch 1, node 4 ready, node 5 ready",
+        ],
+    ),
     ("halt", [f"control: expected {VERB}, and found 'halt'"]),
     ("stop", [f"control: expected {NODE}, and found {END}"]),
     ("stop a", [f"control: expected {NODE}, and found 'a'"]),
@@ -49,8 +56,13 @@ ROWS = [
     ("stop 0/1", ["a/1 not stopped: refused 11, the node is stopped"]),
     ("stop a/3", ["a/3 stopped"]),
     ("stop a/2", ["a/2 not stopped: it is the last ready member of its chain; --force stops it"]),
-    ("status", ["chain a, index 0, epoch 1, node 1 stopped, node 2 ready, node 3 stopped",
-                "chain b, index 1, epoch 1, node 4 ready, node 5 ready"]),
+    (
+        "status",
+        [
+            "chain a, index 0, epoch 1, node 1 stopped, node 2 ready, node 3 stopped",
+            "chain b, index 1, epoch 1, node 4 ready, node 5 ready",
+        ],
+    ),
     ("remove 0/1", ["a/1 removed"]),
     ("remove a/3", ["a/3 removed"]),
     ("stop a/2", ["a/2 not stopped: it is the last ready member of its chain; --force stops it"]),
@@ -69,7 +81,9 @@ class Controlled:
     def __init__(self, craqd, plan, *options):
         self.file = running.text_file(plan)
         words = [craqd, "--control", *running.OPTIONS, *options, self.file.name, "127.0.0.1:0"]
-        self.process = subprocess.Popen(words, stdin=subprocess.PIPE, stdout=subprocess.PIPE, stderr=subprocess.PIPE)
+        self.process = subprocess.Popen(
+            words, stdin=subprocess.PIPE, stdout=subprocess.PIPE, stderr=subprocess.PIPE
+        )
         found = re.fullmatch(rb"listening ([1-9][0-9]*)\n", self.process.stdout.readline())
         self.port = int(found[1]) if found else 0
         self.began = self.answer()
@@ -104,9 +118,16 @@ def lines(checks, craqd):
         for line, wanted in ROWS:
             checks.same(f"control line {line!r}", server.ask(line, len(wanted)), wanted)
         help_text = server.ask("help", 5)
-        checks.that(all(re.match(f"{verb} ", it) for verb, it in zip(("stop", "remove", "join", "status", "help"), help_text)),
-                    f"help names the lines: {help_text}")
-        checks.same("a server after its control lines", server.finish(), (0, "audit merged 0\naudit merged 0\n", ""))
+        checks.that(
+            all(
+                re.match(f"{verb} ", it)
+                for verb, it in zip(("stop", "remove", "join", "status", "help"), help_text)
+            ),
+            f"help names the lines: {help_text}",
+        )
+        checks.same(
+            "a server after its control lines", server.finish(), (0, "audit merged 0\naudit merged 0\n", "")
+        )
 
 
 def last_line(checks, craqd):
@@ -121,7 +142,9 @@ def ended_otherwise(checks, craqd):
     with Controlled(craqd, running.PLAN, "--connections", "1") as server:
         example.Client(f"127.0.0.1:{server.port}").close()
         try:
-            checks.same("the status of a server with open control lines", server.process.wait(running.PATIENCE), 0)
+            checks.same(
+                "the status of a server with open control lines", server.process.wait(running.PATIENCE), 0
+            )
         except subprocess.TimeoutExpired:
             checks.that(False, "a server with open control lines ends after its last connection")
 
@@ -182,8 +205,15 @@ def replaced(checks, server, counters, rounds):
     for done in range(rounds):
         name = list(chains)[done % 3]
         old, new = chains[name][done // 3 % 3], 10 + done
-        answers = [server.ask(f"{verb} {name}/{node}") for verb, node in (("stop", old), ("remove", old), ("join", new))]
-        checks.same(f"round {done}", answers, [[f"{name}/{old} stopped"], [f"{name}/{old} removed"], [f"{name}/{new} joined"]])
+        answers = [
+            server.ask(f"{verb} {name}/{node}")
+            for verb, node in (("stop", old), ("remove", old), ("join", new))
+        ]
+        checks.same(
+            f"round {done}",
+            answers,
+            [[f"{name}/{old} stopped"], [f"{name}/{old} removed"], [f"{name}/{new} joined"]],
+        )
         if not ready(server, name, new):
             checks.that(False, f"{name}/{new} is ready within {running.PATIENCE} s")
             return
@@ -196,7 +226,11 @@ def under_load(checks, craqd, rounds=ROUNDS):
     """No request is lost, none is done twice, and each audit is one run."""
     with Controlled(craqd, PLAN, "--journal") as server:
         over = threading.Event()
-        counters = [Counter(server.port, chain, f"count-{chain}-{it}", over) for chain in range(3) for it in range(CLIENTS)]
+        counters = [
+            Counter(server.port, chain, f"count-{chain}-{it}", over)
+            for chain in range(3)
+            for it in range(CLIENTS)
+        ]
         for it in counters:
             it.start()
         try:
@@ -210,10 +244,15 @@ def under_load(checks, craqd, rounds=ROUNDS):
             checks.that(it.count >= STEPS * (rounds // 3), f"{it.key}: {it.count} counts in {rounds} rounds")
         status, out, err = server.finish()
         merged = re.fullmatch("audit merged ([0-9]+)\n" * 3, out)
-        checks.that(status == 0 and merged and not err, f"status {status}, audits {out!r}, standard error {err!r}")
+        checks.that(
+            status == 0 and merged and not err, f"status {status}, audits {out!r}, standard error {err!r}"
+        )
         for chain in range(3) if merged else ():
             counts = sum(it.count for it in counters if it.chain == chain)
-            checks.that(int(merged[chain + 1]) >= 2 * counts, f"chain {chain}: {merged[chain + 1]} receipts of {2 * counts} replies")
+            checks.that(
+                int(merged[chain + 1]) >= 2 * counts,
+                f"chain {chain}: {merged[chain + 1]} receipts of {2 * counts} replies",
+            )
         return sum(it.count for it in counters)
 
 

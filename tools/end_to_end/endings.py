@@ -16,7 +16,8 @@ from tools.end_to_end.bad_input import framed
 from tools.end_to_end.limits import Limited, is_served, read_of, reply
 from tools.end_to_end.signals import top_with
 
-# Seconds that an orderly end may take beyond the clients that are cut after 5 seconds, and what a busy machine adds.
+# Seconds that an orderly end may take beyond the clients that are cut after 5 seconds, and what a busy
+# machine adds.
 END_SECONDS, GRACE_SECONDS, SLACK_SECONDS = 5, 5, 2
 FEW_FILES, MANY, QUEUED = 64, 400, 200
 PIDFD_OPEN, PIDFD_GETFD = 434, 438
@@ -66,19 +67,31 @@ def without_descriptors(checks, craqd):
         checks.same("a read before the crowd", reply(first)[1:2], b"\2")
         made = crowd(server.port, MANY)
         time.sleep(0.5)
-        ends_in_order(checks, server, f"a server of {FEW_FILES} descriptors and {MANY} clients", "audit merged 1\naudit merged 0\n")
+        ends_in_order(
+            checks,
+            server,
+            f"a server of {FEW_FILES} descriptors and {MANY} clients",
+            "audit merged 1\naudit merged 0\n",
+        )
         let_go([first, *made])
 
 
 def without_descriptors_to_the_end(checks, craqd):
-    """A server without descriptors ends in order if its clients take no reply: none comes free before they are cut."""
+    """A server without descriptors ends in order if its clients take no reply: none comes free before
+    they are cut."""
     with Limited(craqd, files=FEW_FILES) as server:
         served = [server.connect() for _ in range(FEW_FILES)]
         for it in served:
             flood(it)
         made = crowd(server.port, MANY)
         time.sleep(0.5)
-        ends_in_order(checks, server, f"a server of {FEW_FILES} descriptors, clients that never read and {MANY} more", "", GRACE_SECONDS + END_SECONDS)
+        ends_in_order(
+            checks,
+            server,
+            f"a server of {FEW_FILES} descriptors, clients that never read and {MANY} more",
+            "",
+            GRACE_SECONDS + END_SECONDS,
+        )
         let_go([*served, *made])
 
 
@@ -89,7 +102,12 @@ def after_the_last(checks, craqd):
         checks.that(is_served(first), "the last connection is served")
         made = crowd(server.port, QUEUED)
         time.sleep(0.5)
-        ends_in_order(checks, server, f"a server with its last connection and {QUEUED} clients behind it", "audit merged 0\naudit merged 0\n")
+        ends_in_order(
+            checks,
+            server,
+            f"a server with its last connection and {QUEUED} clients behind it",
+            "audit merged 0\naudit merged 0\n",
+        )
         let_go([first, *made])
 
 
@@ -99,25 +117,37 @@ def never_reads(checks, craqd):
         first = server.connect()
         flood(first)
         made = crowd(server.port, QUEUED)
-        ends_in_order(checks, server, "a server of a client that never reads", "", GRACE_SECONDS + END_SECONDS)
+        ends_in_order(
+            checks, server, "a server of a client that never reads", "", GRACE_SECONDS + END_SECONDS
+        )
         let_go([first, *made])
 
 
 def behind_a_stopped_node(checks, craqd):
-    """Updates wait behind a stopped tail as the server is to end: of a client that waits, and of one that is gone."""
+    """Updates wait behind a stopped tail as the server is to end: of a client that waits, and of one
+    that is gone."""
     with Controlled(craqd, running.PLAN, "--journal") as server:
         checks.same("the tail stops", server.ask("stop a/3"), ["a/3 stopped"])
         made = [socket.create_connection(("127.0.0.1", server.port), running.PATIENCE) for _ in range(2)]
         for client, it in enumerate(made, 1):
-            it.sendall(framed(example.one(1, example.update_request(1, 0, client, 1, example.put(0, b"k", b"v")))))
+            it.sendall(
+                framed(example.one(1, example.update_request(1, 0, client, 1, example.put(0, b"k", b"v"))))
+            )
         time.sleep(0.5)
         made[1].close()
         began = time.time()
         status, out, _ = server.finish()
         took = time.time() - began
-        checks.same("a server with updates behind a stopped tail", (status, out), (0, "audit merged 0\naudit merged 0\n"))
+        checks.same(
+            "a server with updates behind a stopped tail",
+            (status, out),
+            (0, "audit merged 0\naudit merged 0\n"),
+        )
         limit = GRACE_SECONDS + END_SECONDS + SLACK_SECONDS
-        checks.that(took < limit, f"a server with updates behind a stopped tail ends within {limit} s, and took {took:.1f} s")
+        checks.that(
+            took < limit,
+            f"a server with updates behind a stopped tail ends within {limit} s, and took {took:.1f} s",
+        )
         told = example.replies_of(reply(made[0]))
         checks.same("the update that waited is refused", [it.number for _, it in told], [example.STOPPED])
         made[0].close()
@@ -128,8 +158,15 @@ def signalled(checks, craqd):
     with tempfile.TemporaryDirectory(prefix="end-to-end-") as room, running.text_file(running.PLAN) as plan:
         top_with(craqd, room)
         words = [f"{room}/serve", "--journal", *running.OPTIONS, plan.name, "127.0.0.1:0"]
-        process = subprocess.Popen(words, stdin=subprocess.DEVNULL, stdout=subprocess.PIPE, stderr=subprocess.PIPE, text=True,
-                                   start_new_session=True, preexec_fn=running.limited(resource.RLIMIT_NOFILE, FEW_FILES))
+        process = subprocess.Popen(
+            words,
+            stdin=subprocess.DEVNULL,
+            stdout=subprocess.PIPE,
+            stderr=subprocess.PIPE,
+            text=True,
+            start_new_session=True,
+            preexec_fn=running.limited(resource.RLIMIT_NOFILE, FEW_FILES),
+        )
         try:
             port = int(process.stdout.readline().removeprefix("listening "))
             made = crowd(port, MANY)
@@ -138,8 +175,15 @@ def signalled(checks, craqd):
             process.send_signal(signal.SIGTERM)
             out, err = process.communicate(timeout=running.PATIENCE)
             took = time.time() - began
-            checks.same("./serve at SIGTERM with a crowd", (process.returncode, out.splitlines()[-2:]), (0, ["audit merged 0"] * 2))
-            checks.that(took < END_SECONDS + SLACK_SECONDS, f"./serve at SIGTERM with a crowd took {took:.1f} s: {err}")
+            checks.same(
+                "./serve at SIGTERM with a crowd",
+                (process.returncode, out.splitlines()[-2:]),
+                (0, ["audit merged 0"] * 2),
+            )
+            checks.that(
+                took < END_SECONDS + SLACK_SECONDS,
+                f"./serve at SIGTERM with a crowd took {took:.1f} s: {err}",
+            )
             let_go(made)
         finally:
             if process.poll() is None:
@@ -179,7 +223,10 @@ def listener_fails(checks, craqd):
         checks.same("a read before the listener fails", reply(first)[1:2], b"\2")
         listener = listener_of(server.process, server.port)
         if listener is None:
-            print("end to end: this system gives no handle of another process's socket: a listener that fails is not tried")
+            print(
+                "end to end: this system gives no handle of another process's socket: "
+                "a listener that fails is not tried"
+            )
             return
         began = time.time()
         listener.shutdown(socket.SHUT_RDWR)
@@ -187,9 +234,14 @@ def listener_fails(checks, craqd):
         server.process.wait(running.PATIENCE)
         took = time.time() - began
         out, err = server.process.communicate()
-        checks.same("a listener that fails", (server.process.returncode, out.decode(), err.decode().splitlines()[1:]),
-                    (4, "audit merged 1\naudit merged 0\n", ["cannot listen"]))
-        checks.that(took < END_SECONDS + SLACK_SECONDS, f"a listener that fails: the server ended after {took:.1f} s")
+        checks.same(
+            "a listener that fails",
+            (server.process.returncode, out.decode(), err.decode().splitlines()[1:]),
+            (4, "audit merged 1\naudit merged 0\n", ["cannot listen"]),
+        )
+        checks.that(
+            took < END_SECONDS + SLACK_SECONDS, f"a listener that fails: the server ended after {took:.1f} s"
+        )
         let_go([first, listener])
 
 
@@ -206,6 +258,14 @@ def lacking(checks, craqd):
 
 
 def tried(checks, craqd):
-    for part in without_descriptors, without_descriptors_to_the_end, after_the_last, never_reads, behind_a_stopped_node, signalled, \
-            listener_fails, lacking:
+    for part in (
+        without_descriptors,
+        without_descriptors_to_the_end,
+        after_the_last,
+        never_reads,
+        behind_a_stopped_node,
+        signalled,
+        listener_fails,
+        lacking,
+    ):
         checks.part(f"endings: {part.__name__.replace('_', ' ')}", part, craqd)

@@ -1,5 +1,5 @@
-"""Servers that do not answer, or not to the end: each verb, command and tool ends in time all the same. Texts are
-written from docs/use/CRAQ.md."""
+"""Servers that do not answer, or not to the end: each verb, command and tool ends in time all the same.
+Texts are written from docs/use/CRAQ.md."""
 import concurrent.futures
 import os
 import re
@@ -14,8 +14,9 @@ from tools import repository
 from tools.end_to_end import control, running
 
 JILSDAU = os.path.join(repository.TOP, "clients/python/jilsdau")
-# A request ends 20 seconds after it began, and one that is tried once after 10 or 20. So from its first connection on a
-# program takes LEAST to MOST seconds, also on a busy machine. One that runs for WAITS seconds has no end.
+# A request ends 20 seconds after it began, and one that is tried once after 10 or 20. So from its first
+# connection on a program takes LEAST to MOST seconds, also on a busy machine. One that runs for WAITS
+# seconds has no end.
 LEAST, MOST, WAITS = 8, 30, 60
 # The seconds from one byte of a slow server to the next.
 SLOWNESS = 0.5
@@ -44,7 +45,7 @@ def told(made, kind):
 def half(made, kind):
     """Tells the status, and sends the first half of any other reply."""
     reply = {UPDATE: WRITTEN, READ: FOUND}.get(kind, TOLD * 2)
-    made.sendall(reply[:len(reply) // 2])
+    made.sendall(reply[: len(reply) // 2])
 
 
 def slow(made, kind):
@@ -63,8 +64,8 @@ def full(made, _kind):
 
 
 class Played:
-    """A server that takes requests and answers as `answer` does: its address, the time of its first connection, and the
-    updates that came."""
+    """A server that takes requests and answers as `answer` does: its address, the time of its first
+    connection, and the updates that came."""
 
     def __init__(self, answer):
         self.answer, self.began, self.tries, self.updates = answer, None, 0, []
@@ -93,7 +94,8 @@ class Played:
                 pass
 
     def request(self, made):
-        """Returns the payload of the next frame. Where no frame comes it waits for the end of the connection."""
+        """Returns the payload of the next frame. Where no frame comes it waits for the end of the
+        connection."""
         size = int.from_bytes(made.recv(4, socket.MSG_WAITALL), "big")
         if size < 10_000:
             return made.recv(size, socket.MSG_WAITALL)
@@ -107,8 +109,8 @@ class Played:
 
 LATE = "craq: no reply came from {} in time\n"
 FULL = "connection\ncraq: the connection broke; a server that is full (--most) closes each connection\n"
-# Of craq and of the command in Python: the words, what is entered, the server's answers, the status, the beginning of
-# standard error, and whether that says that the update may have been done.
+# Of craq and of the command in Python: the words, what is entered, the server's answers, the status,
+# the beginning of standard error, and whether that says that the update may have been done.
 ROWS = [
     ("set k v", "", silent, 4, LATE, False),
     ("get k", "", silent, 4, LATE, False),
@@ -150,7 +152,9 @@ class Run:
     def __init__(self, words, env, entered=""):
         self.began = time.monotonic()
         try:
-            ran = subprocess.run(words, input=entered.encode(), capture_output=True, env=env, timeout=WAITS, check=False)
+            ran = subprocess.run(
+                words, input=entered.encode(), capture_output=True, env=env, timeout=WAITS, check=False
+            )
             self.status, self.out, self.err = ran.returncode, ran.stdout.decode(), ran.stderr.decode()
         except subprocess.TimeoutExpired:
             self.status, self.out, self.err = "no end", "", ""
@@ -171,25 +175,35 @@ def judge(checks, words, server, ran, wanted):
     """Checks how a program ended at a server that does not answer."""
     status, err, is_open = wanted
     what = f"{' '.join(words)} at a server that is {server.answer.__name__}"
-    checks.that(ran.status == status and ran.err.startswith(err), f"{what}: {ran.status} {ran.err!r}, wanted {status} {err!r}")
+    checks.that(
+        ran.status == status and ran.err.startswith(err),
+        f"{what}: {ran.status} {ran.err!r}, wanted {status} {err!r}",
+    )
     checks.same(f"{what}: it may have been done", "may have been done" in ran.err, is_open)
     check_time(checks, what, server.began, ran)
-    checks.that(len(set(server.updates)) <= 1 or "health" in words, f"{what}: one update, and not {server.updates}")
+    checks.that(
+        len(set(server.updates)) <= 1 or "health" in words, f"{what}: one update, and not {server.updates}"
+    )
     if words == ["health"] and server.answer is told:
-        checks.same(f"{what}: its members", ran.out, "".join(f"node {it} no reply within 2 s\n" for it in (1, 2, 3)))
+        checks.same(
+            f"{what}: its members", ran.out, "".join(f"node {it} no reply within 2 s\n" for it in (1, 2, 3))
+        )
     if not is_tried_once(words) and "--metrics" not in words:
         checks.that(server.tries >= 2, f"{what} is tried again: {server.tries}")
     server.close()
 
 
 def stopped(checks, craqd, craq, home):
-    """A member that stopped and is not removed: an update ends in time, and is done once when it is asked again."""
+    """A member that stopped and is not removed: an update ends in time, and is done once when it is
+    asked again."""
     env = {**os.environ, "HOME": home, "PATH": os.path.dirname(craq) + ":" + os.environ["PATH"]}
     with control.Controlled(craqd, running.PLAN) as server:
         address = f"127.0.0.1:{server.port}"
         checks.same("stop", server.ask("stop a/3"), ["a/3 stopped"])
-        lines = [[craq, "--connect", address, "set", "one", "v"],
-                 [sys.executable, JILSDAU, "--connect", address, "set", "two", "v"]]
+        lines = [
+            [craq, "--connect", address, "set", "one", "v"],
+            [sys.executable, JILSDAU, "--connect", address, "set", "two", "v"],
+        ]
         with concurrent.futures.ThreadPoolExecutor() as pool:
             found = list(pool.map(lambda words: Run(words, env), lines))
         text = "node 1 N ms\nnode 2 N ms\nnode 3 stopped\nupdate not tried\n"
@@ -197,10 +211,18 @@ def stopped(checks, craqd, craq, home):
         for program in [craq], [sys.executable, JILSDAU]:
             for options, out in ([], text), (["--json"], told):
                 ran = Run([*program, "--connect", address, "health", *options], env)
-                seen = re.sub(r"[0-9]+\.[0-9]+(e-[0-9]+)?|(?<=pass\":)[0-9]+", "N", re.sub("([:,]) ", r"\1", ran.out))
-                checks.same(f"health {options} at a stopped member", (ran.status, seen, ran.err.partition(": ")[2]), (
-                    3, out, "remove the stopped node a/3: updates wait until then\n"))
-                checks.that(ran.ended - ran.began < LEAST, f"health at a stopped member takes {ran.ended - ran.began:.1f} s")
+                seen = re.sub(
+                    r"[0-9]+\.[0-9]+(e-[0-9]+)?|(?<=pass\":)[0-9]+", "N", re.sub("([:,]) ", r"\1", ran.out)
+                )
+                checks.same(
+                    f"health {options} at a stopped member",
+                    (ran.status, seen, ran.err.partition(": ")[2]),
+                    (3, out, "remove the stopped node a/3: updates wait until then\n"),
+                )
+                checks.that(
+                    ran.ended - ran.began < LEAST,
+                    f"health at a stopped member takes {ran.ended - ran.began:.1f} s",
+                )
         checks.same("remove", server.ask("remove a/3"), ["a/3 removed"])
         check_time(checks, "an update at a stopped member", found[0].began, found[0])
         for words, ran in zip(lines, found):
@@ -209,7 +231,11 @@ def stopped(checks, craqd, craq, home):
             checks.that(ran.status == 4 and again, f"{what}: {ran.status} {ran.err!r}")
             line = again[1] if again else "false"
             asked = subprocess.run(line, shell=True, capture_output=True, env=env, timeout=WAITS, check=False)
-            checks.same(f"{what}, asked again", (asked.returncode, asked.stdout, asked.stderr), (0, b"written 1\n", b""))
+            checks.same(
+                f"{what}, asked again",
+                (asked.returncode, asked.stdout, asked.stderr),
+                (0, b"written 1\n", b""),
+            )
 
 
 def lost(checks, craqd, craq, home):
@@ -220,14 +246,22 @@ def lost(checks, craqd, craq, home):
             server.ask(line)
         for program in [craq], [sys.executable, JILSDAU]:
             ran = Run([*program, "--connect", f"127.0.0.1:{server.port}", "health", "--chain", "b"], env)
-            checks.same("health of a lost chain", (ran.status, ran.out, ran.err.partition(": ")[2]), (
-                3, "node 4 stopped\nnode 5 stopped\nupdate not tried\n",
-                "no ready member of chain b runs, and its data is lost: start the server again\n"))
+            checks.same(
+                "health of a lost chain",
+                (ran.status, ran.out, ran.err.partition(": ")[2]),
+                (
+                    3,
+                    "node 4 stopped\nnode 5 stopped\nupdate not tried\n",
+                    "no ready member of chain b runs, and its data is lost: start the server again\n",
+                ),
+            )
 
 
 def tried(checks, craqd, craq):
     """Runs all programs at once, and checks how each ended."""
-    with tempfile.TemporaryDirectory(prefix="end-to-end-") as home, concurrent.futures.ThreadPoolExecutor(40) as pool:
+    with tempfile.TemporaryDirectory(prefix="end-to-end-") as home, concurrent.futures.ThreadPoolExecutor(
+        40
+    ) as pool:
         env = {**os.environ, "HOME": home, "CRAQ_CLIENT": "7"}
         pending = []
         for program, rows in ([craq], ROWS), ([sys.executable, JILSDAU], PYTHON):

@@ -1,4 +1,5 @@
-"""Tries a server at its limits: too many connections, idle ones, a pass that leaps, the end of its standard input."""
+"""Tries a server at its limits: too many connections, idle ones, a pass that leaps, the end of its
+standard input."""
 import os
 import re
 import resource
@@ -27,8 +28,14 @@ class Limited:
     def __init__(self, craqd, *options, errors=subprocess.PIPE, files=None, env=(), plan=running.PLAN):
         self.plan, self.file, self.options = plan, running.text_file(plan), [*running.OPTIONS, *options]
         words = [craqd, "--until-input-ends", *self.options, self.file.name, "127.0.0.1:0"]
-        self.process = subprocess.Popen(words, stdin=subprocess.PIPE, stdout=subprocess.PIPE, stderr=errors, env={**os.environ, **dict(env)},
-                                        preexec_fn=running.limited(resource.RLIMIT_NOFILE, files))
+        self.process = subprocess.Popen(
+            words,
+            stdin=subprocess.PIPE,
+            stdout=subprocess.PIPE,
+            stderr=errors,
+            env={**os.environ, **dict(env)},
+            preexec_fn=running.limited(resource.RLIMIT_NOFILE, files),
+        )
         found = re.fullmatch(rb"listening ([1-9][0-9]*)\n", self.process.stdout.readline())
         self.port = int(found[1]) if found else 0
 
@@ -49,8 +56,13 @@ class Limited:
         try:
             out, err = self.process.communicate(timeout=running.PATIENCE)
             found = (self.process.returncode, out.decode())
-            served = running.served_line(self.file, self.port, *running.way(self.options), plan=self.plan) + re.escape(log)
-            checks.that(err is None or re.fullmatch(served, err.decode()), f"{what}: on standard error {err!r} and not {served!r}")
+            served = running.served_line(
+                self.file, self.port, *running.way(self.options), plan=self.plan
+            ) + re.escape(log)
+            checks.that(
+                err is None or re.fullmatch(served, err.decode()),
+                f"{what}: on standard error {err!r} and not {served!r}",
+            )
         except subprocess.TimeoutExpired:
             found = "no end"
         checks.same(what, found, (0, wanted))
@@ -58,7 +70,12 @@ class Limited:
 
 def read_of(node, shown):
     """Returns a strong read of k, with this pass."""
-    return framed(bytes.fromhex("0102") + node.to_bytes(4, "big") + shown.to_bytes(8, "big") + bytes.fromhex("010000016b"))
+    return framed(
+        bytes.fromhex("0102")
+        + node.to_bytes(4, "big")
+        + shown.to_bytes(8, "big")
+        + bytes.fromhex("010000016b")
+    )
 
 
 def reply(made):
@@ -73,7 +90,8 @@ def is_served(made):
 
 
 def most(checks, craqd):
-    """One connection more than there may be is closed without a reply; once another has ended there is a place."""
+    """One connection more than there may be is closed without a reply; once another has ended there is
+    a place."""
     with Limited(craqd, "--most", "2") as server:
         some = [server.connect() for _ in range(2)]
         checks.that(all(is_served(made) for made in some), "as many connections as there may be are served")
@@ -120,14 +138,17 @@ def used(process):
 
 
 def unasked(checks, craqd):
-    """A store of the largest size takes little processor time while nobody asks it. How little on a quiet machine is measured
-    (`benchmarks/server/idle`), not tested here."""
+    """A store of the largest size takes little processor time while nobody asks it. How little on a
+    quiet machine is measured (`benchmarks/server/idle`), not tested here."""
     with Limited(craqd, plan=LARGE) as server:
         time.sleep(2)
         before, began = used(server.process), time.time()
         time.sleep(2)
         share = (used(server.process) - before) / (time.time() - began)
-        checks.that(share <= MOST_IDLE, f"64 chains of 8 nodes that nobody asks take {share:.2f} processors, and may take {MOST_IDLE}")
+        checks.that(
+            share <= MOST_IDLE,
+            f"64 chains of 8 nodes that nobody asks take {share:.2f} processors, and may take {MOST_IDLE}",
+        )
         server.finish(checks, "a server of 64 chains", "")
 
 
@@ -142,8 +163,8 @@ def many(checks, craqd):
 
 
 def memory(checks, craqd):
-    """A connection for which there is no memory is closed at once, by the thread that accepts it or by its event loop; then, and
-    only then, the status is 3."""
+    """A connection for which there is no memory is closed at once, by the thread that accepts it or by
+    its event loop; then, and only then, the status is 3."""
     options, found = [] if running.OPTIONS else ["--threads", "1"], []
     with tempfile.TemporaryDirectory(prefix="memory-") as folder:
         library = Library(folder)
@@ -159,10 +180,20 @@ def memory(checks, craqd):
 def leaps(checks, craqd):
     """With --most-leap a pass that leaps too far is refused, asks no node, and disables none."""
     with Limited(craqd, "--journal", "--most-leap", str(LEAP)) as server, server.connect() as made:
-        for shown, kind in (2 ** 64 - 1, 3), (2 ** 64 - 2, 3), (LEAP + 1, 3), (LEAP, 2), (2 * LEAP, 2), (2 ** 40, 3), (0, 2):
+        for shown, kind in (
+            (2**64 - 1, 3),
+            (2**64 - 2, 3),
+            (LEAP + 1, 3),
+            (LEAP, 2),
+            (2 * LEAP, 2),
+            (2**40, 3),
+            (0, 2),
+        ):
             made.sendall(read_of(3, shown))
             found = reply(made)
-            checks.same(f"a read with pass {shown}", (found[1], found[2] == 13 if kind == 3 else True), (kind, True))
+            checks.same(
+                f"a read with pass {shown}", (found[1], found[2] == 13 if kind == 3 else True), (kind, True)
+            )
         server.finish(checks, "a server after such passes", "audit merged 3\naudit merged 0\n")
 
 
@@ -170,15 +201,25 @@ def invented(checks, craqd):
     """./serve keeps out an invented pass, which would use up its chain's numbers."""
     with tempfile.TemporaryDirectory(prefix="end-to-end-") as room, running.text_file(running.PLAN) as plan:
         signals.top_with(craqd, room)
-        process = subprocess.Popen([f"{room}/serve", *running.OPTIONS, plan.name, "127.0.0.1:0"], stdin=subprocess.DEVNULL,
-                                   stdout=subprocess.PIPE, stderr=subprocess.PIPE, text=True, start_new_session=True)
+        process = subprocess.Popen(
+            [f"{room}/serve", *running.OPTIONS, plan.name, "127.0.0.1:0"],
+            stdin=subprocess.DEVNULL,
+            stdout=subprocess.PIPE,
+            stderr=subprocess.PIPE,
+            text=True,
+            start_new_session=True,
+        )
         try:
             port = int(process.stdout.readline().removeprefix("listening "))
             with socket.create_connection(("127.0.0.1", port), running.PATIENCE) as made:
-                for shown, kind in (2 ** 64 - 2, 3), (2 ** 32, 3), (0, 2), (1_234_567_890, 2):
+                for shown, kind in (2**64 - 2, 3), (2**32, 3), (0, 2), (1_234_567_890, 2):
                     made.sendall(read_of(3, shown))
                     found = reply(made)
-                    checks.same(f"./serve: a read with pass {shown}", (found[1], found[2] == 13 if kind == 3 else True), (kind, True))
+                    checks.same(
+                        f"./serve: a read with pass {shown}",
+                        (found[1], found[2] == 13 if kind == 3 else True),
+                        (kind, True),
+                    )
             process.send_signal(signal.SIGTERM)
             process.communicate(timeout=running.PATIENCE)
             checks.same("./serve after such passes", process.returncode, 0)
@@ -187,15 +228,18 @@ def invented(checks, craqd):
 
 
 def kept(checks, craqd):
-    """A pass that a client kept from an earlier server is taken, and the replies go on from it; one at the end of its numbers is refused and
-    disables nothing."""
+    """A pass that a client kept from an earlier server is taken, and the replies go on from it; one at
+    the end of its numbers is refused and disables nothing."""
     with Limited(craqd, "--journal") as server, server.connect() as made:
-        made.sendall(read_of(3, 2 ** 64 - 1))
+        made.sendall(read_of(3, 2**64 - 1))
         checks.same("a read with the greatest pass", reply(made)[1:3], bytes([3, 13]))
-        for shown in 2 ** 40, 0:
+        for shown in 2**40, 0:
             made.sendall(read_of(3, shown))
             found = reply(made)
-            checks.that(found[1] == 2 and int.from_bytes(found[2:10], "big") > 2 ** 40, f"a read with pass {shown} after a restart: {found}")
+            checks.that(
+                found[1] == 2 and int.from_bytes(found[2:10], "big") > 2**40,
+                f"a read with pass {shown} after a restart: {found}",
+            )
         server.finish(checks, "a server that was shown kept passes", "audit merged 2\naudit merged 0\n")
 
 
@@ -218,7 +262,9 @@ def journals(checks, craqd):
     """A server with journals and without an end serves, and says that no audit will be printed."""
     with running.text_file(running.PLAN) as file:
         words = [craqd, "--journal", *running.OPTIONS, file.name, "127.0.0.1:0"]
-        process = subprocess.Popen(words, stdin=subprocess.DEVNULL, stdout=subprocess.PIPE, stderr=subprocess.PIPE)
+        process = subprocess.Popen(
+            words, stdin=subprocess.DEVNULL, stdout=subprocess.PIPE, stderr=subprocess.PIPE
+        )
         try:
             port = int(process.stdout.readline().removeprefix(b"listening "))
             with socket.create_connection(("127.0.0.1", port), running.PATIENCE) as made:
@@ -227,7 +273,10 @@ def journals(checks, craqd):
             process.terminate()
             out, err = process.communicate(timeout=running.PATIENCE)
             checks.same("--journal without an end", (process.returncode, out), (-15, b""))
-            checks.that(b"journals, of which no audit will be printed" in err, f"--journal without an end says so: {err}")
+            checks.that(
+                b"journals, of which no audit will be printed" in err,
+                f"--journal without an end says so: {err}",
+            )
         finally:
             if process.poll() is None:
                 process.kill()
@@ -246,17 +295,19 @@ def logged(checks, craqd):
         checks.that(is_served(first), "a connection that is told of is served")
         first.sendall(read_of(9, 0))
         checks.same("a read at a node that is not there", reply(first)[1:3], bytes([3, 23]))
-        first.sendall(read_of(3, 2 ** 40))
+        first.sendall(read_of(3, 2**40))
         checks.same("a read with a pass that leaps", reply(first)[1:3], bytes([3, 13]))
         more = [server.connect() for _ in range(2)]
         for made in more:
             checks.same("one connection more, with a log", rest_or_none(made), b"")
-        log = (f"connection 0 from 127.0.0.1:{port_of(first)}\n"
-               "connection 0: refused 23, there is no such node here\n"
-               "connection 0: refused 13, a counter is at its greatest value, or the pass is too large\n"
-               f"connection from 127.0.0.1:{port_of(more[0])} turned away, 1 so far\n"
-               f"connection from 127.0.0.1:{port_of(more[1])} turned away, 2 so far\n"
-               "connection 0 ended\n")
+        log = (
+            f"connection 0 from 127.0.0.1:{port_of(first)}\n"
+            "connection 0: refused 23, there is no such node here\n"
+            "connection 0: refused 13, a counter is at its greatest value, or the pass is too large\n"
+            f"connection from 127.0.0.1:{port_of(more[0])} turned away, 1 so far\n"
+            f"connection from 127.0.0.1:{port_of(more[1])} turned away, 2 so far\n"
+            "connection 0 ended\n"
+        )
         first.shutdown(socket.SHUT_WR)
         checks.same("a connection at its end", rest(first), b"")
         server.finish(checks, "a server with --log", "", log)
@@ -265,7 +316,9 @@ def logged(checks, craqd):
 def log(checks, craqd):
     """The log; one that nothing takes costs no reply."""
     logged(checks, craqd)
-    with open("/dev/full", "wb") as full, Limited(craqd, "--log", errors=full) as server, server.connect() as made:
+    with open("/dev/full", "wb") as full, Limited(
+        craqd, "--log", errors=full
+    ) as server, server.connect() as made:
         made.sendall(read_of(9, 0))
         checks.same("a refusal that is told to nobody", reply(made)[1:3], bytes([3, 23]))
         checks.that(is_served(made), "a connection is served whose log is lost")

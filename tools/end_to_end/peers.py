@@ -38,13 +38,16 @@ def probed(checks, craqd):
         time.sleep(0.5)
         kind, left = timer_of(server.port, made.getsockname()[1])
         checks.same("the timer of a silent connection", kind, KEEPALIVE)
-        checks.that(PROBE_SECONDS - 5 < left <= PROBE_SECONDS, f"a silent connection is probed after {left:.1f} s")
+        checks.that(
+            PROBE_SECONDS - 5 < left <= PROBE_SECONDS, f"a silent connection is probed after {left:.1f} s"
+        )
         server.process.stdin.close()
         server.process.wait(running.PATIENCE)
 
 
 def held(server, made, *sent):
-    """Sends these bytes and urgent bytes, each a pair of the bytes and their flags, before the server runs again."""
+    """Sends these bytes and urgent bytes, each a pair of the bytes and their flags, before the server
+    runs again."""
     server.process.send_signal(signal.SIGSTOP)
     try:
         for data, flags in sent:
@@ -66,7 +69,9 @@ def urgent(checks, craqd):
                 found = reply(made)[:2]
             except TimeoutError:
                 found = "nothing in 0.5 s"
-            checks.same(f"a request with an urgent byte after {at} of its bytes", found, bytes.fromhex("0104"))
+            checks.same(
+                f"a request with an urgent byte after {at} of its bytes", found, bytes.fromhex("0104")
+            )
         held(server, made, (b"!", socket.MSG_OOB), (STATUS * 3, 0), (b"!", socket.MSG_OOB), (STATUS, 0))
         try:
             found = [reply(made)[:2] for _ in range(4)]
@@ -128,8 +133,11 @@ def shared(checks, craqd):
             stop.set()
             others.join()
         half = beside[len(beside) // 2]
-        checks.that(half <= LIMIT, f"beside {READERS} clients that pipeline half of the reads take "
-                                   f"{half * 1e6:.0f} us, and may take {LIMIT * 1e6:.0f}")
+        checks.that(
+            half <= LIMIT,
+            f"beside {READERS} clients that pipeline half of the reads take "
+            f"{half * 1e6:.0f} us, and may take {LIMIT * 1e6:.0f}",
+        )
         made.close()
         server.finish(checks, "a server after clients that pipeline", "")
 

@@ -1,7 +1,7 @@
 """Tries the two programs from end to end: craqd as a process, craq and other clients against it.
 
-    tools/end_to_end/run CRAQD CRAQ [OPTION ..]     the programs, as the gate or ./build made them, and options of craqd for
-                                                    each server that is tried, as --threads 2
+tools/end_to_end/run CRAQD CRAQ [OPTION ..]     the programs, as the gate or ./build made them, and
+options of craqd for each server that is tried, as --threads 2
 
 The last line is 'end to end: N passed, M failed, in S s', and the status 1 where a check failed.
 """
@@ -10,8 +10,22 @@ import sys
 import time
 
 from tools.checks import Checks
-from tools.end_to_end import (bad_input, clients, commands, control, endings, faults, human, late, limits, metrics,
-                              peers, prompts, running, signals)
+from tools.end_to_end import (
+    bad_input,
+    clients,
+    commands,
+    control,
+    endings,
+    faults,
+    human,
+    late,
+    limits,
+    metrics,
+    peers,
+    prompts,
+    running,
+    signals,
+)
 from tools.sockets import free_port
 
 CONNECTIONS, GARBAGE, WAITING = 1_600, 1_000, 20
@@ -23,7 +37,10 @@ def idle(checks, server):
     before = server.seconds()
     time.sleep(IDLE_SECONDS)
     spent = server.seconds() - before
-    checks.that(spent <= IDLE_LIMIT, f"a store that nobody asks takes {spent:.2f} s of a processor in {IDLE_SECONDS} s")
+    checks.that(
+        spent <= IDLE_LIMIT,
+        f"a store that nobody asks takes {spent:.2f} s of a processor in {IDLE_SECONDS} s",
+    )
 
 
 def hostile(checks, server):

@@ -36,8 +36,13 @@ def limited(what, to):
 
 def ended(words, space=None):
     """Runs a program to its end: its status, standard output and standard error."""
-    ran = subprocess.run(words, stdin=subprocess.DEVNULL, capture_output=True, timeout=PATIENCE,
-                         preexec_fn=limited(resource.RLIMIT_AS, space))
+    ran = subprocess.run(
+        words,
+        stdin=subprocess.DEVNULL,
+        capture_output=True,
+        timeout=PATIENCE,
+        preexec_fn=limited(resource.RLIMIT_AS, space),
+    )
     return ran.returncode, ran.stdout.decode(), ran.stderr.decode()
 
 
@@ -46,7 +51,8 @@ def way(options):
     given = dict(zip(options, options[1:]))
     threads, idle = given.get("--threads", "0"), given.get("--idle", "0")
     yield {"0": "a thread for each connection", "1": "1 thread for all connections"}.get(
-        threads, f"{threads} threads for all connections")
+        threads, f"{threads} threads for all connections"
+    )
     if given.get("--most", "0") != "0":
         yield f"at most {given['--most']}"
     if idle != "0":
@@ -57,24 +63,36 @@ def way(options):
 def served_line(file, port, *way, plan=None):
     """Returns a pattern of the line that craqd prints on standard error for the plan in this file: where it
     listens, at any port if `port` is None, the chains, and the way of serving."""
-    chains = "".join(f" chain {it['name']} of nodes {' '.join(map(str, it['nodes']))}," for it in tomllib.loads(plan or PLAN)["chain"])
-    told = re.escape(f"serves {file.name} at 127.0.0.1:0, port "), port or "[0-9]+", re.escape(f":{chains} {', '.join(way)}\n")
+    chains = "".join(
+        f" chain {it['name']} of nodes {' '.join(map(str, it['nodes']))},"
+        for it in tomllib.loads(plan or PLAN)["chain"]
+    )
+    told = (
+        re.escape(f"serves {file.name} at 127.0.0.1:0, port "),
+        port or "[0-9]+",
+        re.escape(f":{chains} {', '.join(way)}\n"),
+    )
     return r"craqd [0-9]+\.[0-9]+\.[0-9]+ {}{}{}".format(*told)
 
 
 def unheard(words):
     """Runs a program whose standard output takes nothing: its status and standard error."""
     with open("/dev/full", "wb") as full:
-        ran = subprocess.run(words, stdin=subprocess.DEVNULL, stdout=full, stderr=subprocess.PIPE, timeout=PATIENCE)
+        ran = subprocess.run(
+            words, stdin=subprocess.DEVNULL, stdout=full, stderr=subprocess.PIPE, timeout=PATIENCE
+        )
     return ran.returncode, ran.stderr.decode()
 
-# The options of craqd beside those that a check needs, for each server; and those that name each way of serving.
+
+# The options of craqd beside those that a check needs, for each server; and those that name each way of
+# serving.
 OPTIONS = []
 WAYS = [], ["--threads", "2"]
 
 
 def in_each_way(checks, run):
-    """Calls `run` once in each way of serving, and returns its results in words. A check that fails names the way."""
+    """Calls `run` once in each way of serving, and returns its results in words. A check that fails
+    names the way."""
     title, told = checks.title, []
     for options in WAYS:
         OPTIONS[:], serves = options, next(way(options))
@@ -90,17 +108,31 @@ def in_each_way(checks, run):
 class Server:
     """A craqd that runs on a free port of the loopback, and what it has to tell in the end.
 
-    It ends after `connections` of them, so each one that is made has to be counted, by `connect` or by `counts`.
+    It ends after `connections` of them, so each one that is made has to be counted, by `connect` or by
+    `counts`.
     """
 
     def __init__(self, craqd, plan, connections, journal=True, files=None, env=None):
         self.left = connections
         self.plan, self.journal = plan, journal
         self.file = text_file(plan)
-        words = [craqd, *(["--journal"] if journal else []), "--connections", str(connections), *OPTIONS,
-                 self.file.name, "127.0.0.1:0"]
-        self.process = subprocess.Popen(words, stdin=subprocess.DEVNULL, stdout=subprocess.PIPE, stderr=subprocess.PIPE, env=env,
-                                        preexec_fn=limited(resource.RLIMIT_NOFILE, files))
+        words = [
+            craqd,
+            *(["--journal"] if journal else []),
+            "--connections",
+            str(connections),
+            *OPTIONS,
+            self.file.name,
+            "127.0.0.1:0",
+        ]
+        self.process = subprocess.Popen(
+            words,
+            stdin=subprocess.DEVNULL,
+            stdout=subprocess.PIPE,
+            stderr=subprocess.PIPE,
+            env=env,
+            preexec_fn=limited(resource.RLIMIT_NOFILE, files),
+        )
         tells, _, _ = select.select([self.process.stdout], [], [], PATIENCE)
         self.first = self.process.stdout.readline().decode() if tells else ""
         found = re.fullmatch(r"listening ([1-9][0-9]*)\n", self.first)
@@ -157,7 +189,10 @@ class Server:
         try:
             out, err = self.process.communicate(timeout=PATIENCE)
             found = (self.process.returncode, self.first + out.decode())
-            checks.that(re.fullmatch(self.served(), err.decode()), f"{what}: on standard error {err.decode()!r} and not {self.served()!r}")
+            checks.that(
+                re.fullmatch(self.served(), err.decode()),
+                f"{what}: on standard error {err.decode()!r} and not {self.served()!r}",
+            )
         except subprocess.TimeoutExpired:
             found = "no end"
         checks.same(what, found, (0, f"listening {self.port}\n" + wanted))

@@ -1,5 +1,5 @@
-"""SIGTERM, SIGINT and SIGHUP while a client works. ./serve over the program as it is tried here ends in order, and what was answered is audited; craqd itself
-ends at once, and prints nothing."""
+"""SIGTERM, SIGINT and SIGHUP while a client works. ./serve over the program as it is tried here ends in
+order, and what was answered is audited; craqd itself ends at once, and prints nothing."""
 import itertools
 import os
 import re
@@ -30,11 +30,18 @@ def top_with(craqd, room):
 
 
 class Working(threading.Thread):
-    """A client that puts until its connection ends: how often it asked, and how often it was answered, and rightly."""
+    """A client that puts until its connection ends: how often it asked, and how often it was answered,
+    and rightly."""
 
     def __init__(self, address):
         super().__init__(daemon=True)
-        self.client, self.asked, self.answered, self.wrong, self.many = example.Client(address, 2, tries=1), 0, 0, [], threading.Event()
+        self.client, self.asked, self.answered, self.wrong, self.many = (
+            example.Client(address, 2, tries=1),
+            0,
+            0,
+            [],
+            threading.Event(),
+        )
 
     def run(self):
         try:
@@ -52,8 +59,15 @@ class Working(threading.Thread):
 def begins(words, **more):
     """Begins a server with journals, and a client that has some answers."""
     # A shell does not trap what is ignored as it begins.
-    process = subprocess.Popen(words, stdout=subprocess.PIPE, stderr=subprocess.PIPE, text=True, start_new_session=True,
-                               preexec_fn=lambda: signal.signal(signal.SIGINT, signal.SIG_DFL), **more)
+    process = subprocess.Popen(
+        words,
+        stdout=subprocess.PIPE,
+        stderr=subprocess.PIPE,
+        text=True,
+        start_new_session=True,
+        preexec_fn=lambda: signal.signal(signal.SIGINT, signal.SIG_DFL),
+        **more,
+    )
     first = process.stdout.readline()
     working = Working(f"127.0.0.1:{first.removeprefix('listening ').strip()}")
     working.start()
@@ -70,16 +84,26 @@ def ends(process):
 def in_order(checks, top, plan, ending, send):
     """./serve ends the server in order at this signal, also where it is sent to all that ./serve started."""
     what = f"./serve at {ending.name} by {send.__name__}"
-    process, working = begins([f"{top}/serve", "--journal", *running.OPTIONS, plan, "127.0.0.1:0"], stdin=subprocess.DEVNULL)
+    process, working = begins(
+        [f"{top}/serve", "--journal", *running.OPTIONS, plan, "127.0.0.1:0"], stdin=subprocess.DEVNULL
+    )
     try:
         checks.that(working.many.wait(running.PATIENCE), f"a client of ./serve has {BEFORE} answers")
         send(process.pid, ending)
         out, err = process.communicate(timeout=running.PATIENCE)
         working.join(running.PATIENCE)
-        checks.same(f"{what}: its status, and wrong answers", (process.returncode, working.wrong[:3]), (0, []))
+        checks.same(
+            f"{what}: its status, and wrong answers", (process.returncode, working.wrong[:3]), (0, [])
+        )
         audits = out.splitlines()[-2:]
-        merged = [it for it in range(working.answered, working.asked + 1) if audits == [f"audit merged {it}", "audit merged 0"]]
-        checks.that(merged, f"{what}: {working.answered} answers to {working.asked} asks, audited as {audits}: {err}")
+        merged = [
+            it
+            for it in range(working.answered, working.asked + 1)
+            if audits == [f"audit merged {it}", "audit merged 0"]
+        ]
+        checks.that(
+            merged, f"{what}: {working.answered} answers to {working.asked} asks, audited as {audits}: {err}"
+        )
     finally:
         ends(process)
 
@@ -87,7 +111,9 @@ def in_order(checks, top, plan, ending, send):
 def at_once(checks, craqd, plan, ending, options):
     """craqd handles no signal: it is ended by this one, and prints no audit."""
     what = f"craqd {' '.join(options)} at {ending.name}"
-    process, working = begins([craqd, "--journal", *options, *running.OPTIONS, plan, "127.0.0.1:0"], stdin=subprocess.PIPE)
+    process, working = begins(
+        [craqd, "--journal", *options, *running.OPTIONS, plan, "127.0.0.1:0"], stdin=subprocess.PIPE
+    )
     try:
         checks.that(working.many.wait(running.PATIENCE), f"a client of craqd has {BEFORE} answers")
         process.send_signal(ending)
@@ -95,7 +121,11 @@ def at_once(checks, craqd, plan, ending, options):
         status = process.wait(running.PATIENCE)
         out, err = process.communicate()
         working.join(running.PATIENCE)
-        checks.same(f"{what}: its status, what it prints, and wrong answers", (status, out, working.wrong[:3]), (-ending, "", []))
+        checks.same(
+            f"{what}: its status, what it prints, and wrong answers",
+            (status, out, working.wrong[:3]),
+            (-ending, "", []),
+        )
         checks.that(re.fullmatch("craqd .*\n", err), f"{what}: on standard error {err!r}")
     finally:
         ends(process)

@@ -170,13 +170,16 @@ def of_page(text):
     return found
 
 
+# Sources of programs that the trials build.
+RUST_TEXT = re.compile(r"tools/hostile/(?:served|stores)/\w+\.txt")
+
+
 def kind_of(path, text):
     """Returns the reader of a file's texts, or None for a file without any."""
     by_ending = {".rt": of_rust, ".rs": of_rust, ".antt": of_antt, ".md": of_page, ".py": of_python,
-                 ".c": of_c,
-                 ".toml": of_hash}
+                 ".c": of_c, ".h": of_c, ".toml": of_hash}
     first = text.partition("\n")[0]
-    if path.endswith("_main.txt"):
+    if path.endswith("_main.txt") or RUST_TEXT.fullmatch(path):
         return of_rust
     if path in ("crates.txt", "HANDLES") or first.startswith("#!") and "bash" in first:
         return of_hash

@@ -33,12 +33,12 @@
 #include <time.h>
 #include <unistd.h>
 
-/* What a call returns. After -2 and -3, and -5 for a reply, the connection is closed; jilsdau_reopen opens it again. */
+/* Results of a call. After -2 and -3, and -5 for a reply, the connection is closed; jilsdau_reopen opens it again. */
 enum {
     JILSDAU_OK = 0,           /* there is a reply, which may be a refusal */
     JILSDAU_NO_SERVER = -1,   /* there is no connection; nothing was sent */
     JILSDAU_LOST = -2,        /* the connection ended, or no reply came in time */
-    JILSDAU_BAD_REPLY = -3,   /* what came is no reply to this request */
+    JILSDAU_BAD_REPLY = -3,   /* no reply to this request came, but other bytes */
     JILSDAU_BAD_REQUEST = -4, /* the request has no encoding; nothing was sent */
     JILSDAU_NO_MEMORY = -5    /* out of memory, for the request or for its reply */
 };
@@ -87,7 +87,7 @@ struct jilsdau_reply {
     uint64_t number;  /* of a refusal; or the version of WRITTEN and MISMATCH, the index of COMPARE_FAILED, the last of STALE */
     uint64_t detail;  /* of refusal 9: the head */
     size_t read_count;
-    struct jilsdau_item reads[JILSDAU_ITEMS]; /* what a transaction read; a read has one */
+    struct jilsdau_item reads[JILSDAU_ITEMS]; /* the objects that a transaction read; a read has one */
     struct jilsdau_bytes text;                /* of a status: JSON */
 };
 

@@ -1,4 +1,4 @@
-"""Tells which functions the proofs of a running gate take longest.
+"""Tells which functions a running gate takes longest to prove.
 
     benchmarks/gate/functions [CRATE]     watches the provers that run beside it, of one crate or of all,
                                           until they have ended or Ctrl-C, then prints a line for each
@@ -62,7 +62,7 @@ def seconds_of(seen):
 def main():
     if len(sys.argv) > 2 or sys.argv[1:2] in (["--help"], ["-h"]):
         print(__doc__, file=sys.stderr)
-        return 2
+        return 0 if len(sys.argv) == 2 else 2
     seen, ends = collections.defaultdict(dict), time.time() + QUIET
     try:
         while time.time() < ends:

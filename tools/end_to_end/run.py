@@ -1,7 +1,8 @@
 """Tries the two programs from end to end: craqd as a process, craq and other clients against it.
 
-tools/end_to_end/run CRAQD CRAQ [OPTION ..]     the programs, as the gate or ./build made them, and
-options of craqd for each server that is tried, as --threads 2
+    tools/end_to_end/run CRAQD CRAQ [OPTION ..]     the programs, as the gate or ./build made them, and
+                                                    options of craqd for each server that is tried, as
+                                                    --threads 2
 
 The last line is 'end to end: N passed, M failed, in S s', and the status 1 where a check failed.
 """

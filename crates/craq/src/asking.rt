@@ -1,9 +1,9 @@
 //! Asks one request of a verb until it is answered or its deadline comes: finds the head, and
 //! retries after a lost connection or a passing refusal; for `people` and `health`.
 use crate::calling::message_in;
-use crate::chains::{Chain, chains, members_of};
+use crate::chains::{ServedChain, chains, members_of};
 use crate::deadline::Deadline;
-use crate::link::{Failure, Link};
+use crate::link::{Failure, ServerLink};
 use craq_cli::Request;
 use craq_frames::ClientReply;
 use craq_names::{ChainId, NodeId, Pass, Refusal};
@@ -87,7 +87,7 @@ impl Target {
     fn node<R>(
         &self,
         rt: &R,
-        link: &mut Link<'_>,
+        link: &mut ServerLink<'_>,
         read_turn: Option<u64>,
         deadline: Deadline,
     ) -> Result<NodeId, Failure>
@@ -159,7 +159,7 @@ impl Unanswered {
 /// Sends a request to a node once, and waits for its reply until the deadline.
 fn send<R>(
     rt: &R,
-    link: &mut Link<'_>,
+    link: &mut ServerLink<'_>,
     sender: (NodeId, Pass),
     request: &Request,
     deadline: Deadline,
@@ -188,7 +188,7 @@ where
 /// Asks a request once, within 10 seconds and before the target's deadline.
 fn try_once<R>(
     rt: &R,
-    link: &mut Link<'_>,
+    link: &mut ServerLink<'_>,
     target: &Target,
     request: &Request,
     turn: u64,
@@ -209,7 +209,7 @@ where
 /// and true if an earlier try may have done the update.
 pub fn answered<R>(
     rt: &R,
-    link: &mut Link<'_>,
+    link: &mut ServerLink<'_>,
     target: &mut Target,
     request: &Request,
 ) -> Result<(ClientReply, bool), Unanswered>
@@ -239,7 +239,7 @@ where
 }
 
 /// Returns true if the chains, which did not come in this turn, may come with a later try.
-fn may_come_later(known: &Result<Vec<Chain>, Failure>, turn: u64) -> bool {
+fn may_come_later(known: &Result<Vec<ServedChain>, Failure>, turn: u64) -> bool {
     match known {
         Ok(_) => false,
         Err(failure) => passes(*failure, turn),
@@ -250,9 +250,9 @@ fn may_come_later(known: &Result<Vec<Chain>, Failure>, turn: u64) -> bool {
 /// than until the deadline.
 pub fn known_chains<R>(
     rt: &R,
-    link: &mut Link<'_>,
+    link: &mut ServerLink<'_>,
     deadline: Deadline,
-) -> Result<Vec<Chain>, Failure>
+) -> Result<Vec<ServedChain>, Failure>
 where
     R: AllocGlobal + Clock + Wait + Net<Listener = TcpListener, Stream = TcpStream>,
 {

@@ -6,7 +6,7 @@ use crate::calling::{Asker, connection, exchange_over};
 use crate::deadline::{Deadline, MOST_SECONDS};
 use crate::fault::Fault;
 use crate::tally::Tally;
-use craq_cli::Load;
+use craq_cli::BenchLoad;
 use craq_commands::{Command, ReadMode, Reply, Update};
 use craq_frames::{ClientMessage, ClientReply};
 use craq_names::{ChainId, ClientId, Key, ObjectId, RequestNo, Value};
@@ -42,7 +42,7 @@ const HEADINGS: &str =
 
 /// The results of a load.
 #[derive(Drop)]
-struct Outcome {
+struct LoadResults {
     reads: Tally,
     puts: Tally,
     /// The fault that ended a connection before the load was over.
@@ -51,7 +51,7 @@ struct Outcome {
 
 /// The display of a load's progress.
 #[derive(Clone, Copy, Debug, PartialEq, Eq)]
-pub enum Progress {
+pub enum ProgressDisplay {
     Shown,
     Hidden,
 }
@@ -69,17 +69,17 @@ enum Ended {
 #[derive(Clone, Copy)]
 struct NodeLoad<'a> {
     asker: Asker<'a>,
-    load: Load,
+    load: BenchLoad,
     /// The value of each put.
     value: &'a [u8],
-    progress: Progress,
+    progress: ProgressDisplay,
 }
 
 /// The client of one connection of a load.
 #[derive(Clone, Copy)]
-struct Caller<'a> {
+struct LoadClient<'a> {
     asker: Asker<'a>,
-    load: Load,
+    load: BenchLoad,
     /// The value of each put.
     value: &'a [u8],
     /// The index of the connection, from 0.
@@ -116,7 +116,7 @@ fn key_of(index: u64, number: u64, keys: u64) -> u64
 
 /// Makes the object that request `number` of a connection reads or writes, on chain 0. Fails only
 /// when out of memory.
-fn bench_object(alloc: Global, caller: &Caller<'_>, number: u64) -> Result<ObjectId, Fault> {
+fn bench_object(alloc: Global, caller: &LoadClient<'_>, number: u64) -> Result<ObjectId, Fault> {
     let key = key_of(caller.index, number, caller.load.keys.max(1));
     let key = format!(in alloc; "bench-{key}")?;
     match Key::new(alloc, key.as_str().as_bytes()) {
@@ -129,7 +129,7 @@ fn bench_object(alloc: Global, caller: &Caller<'_>, number: u64) -> Result<Objec
 }
 
 /// Makes the message of a read. Fails only when out of memory.
-fn read_message(caller: &Caller<'_>, object: ObjectId) -> ClientMessage {
+fn read_message(caller: &LoadClient<'_>, object: ObjectId) -> ClientMessage {
     ClientMessage::Read {
         node: caller.asker.node,
         pass: caller.asker.pass,
@@ -141,7 +141,7 @@ fn read_message(caller: &Caller<'_>, object: ObjectId) -> ClientMessage {
 /// Makes the message of a put of this number. Fails only when out of memory.
 fn put_message(
     alloc: Global,
-    caller: &Caller<'_>,
+    caller: &LoadClient<'_>,
     object: ObjectId,
     number: u64,
 ) -> Result<ClientMessage, Fault> {
@@ -181,7 +181,7 @@ fn count(tally: &mut Tally, ended: Ended, microseconds: u64) {
 /// is none. Fails only when out of memory.
 fn message_of(
     alloc: Global,
-    caller: &Caller<'_>,
+    caller: &LoadClient<'_>,
     number: u64,
     put: Option<u64>,
 ) -> Result<ClientMessage, Fault> {
@@ -236,7 +236,7 @@ where
 /// of a reply takes longer than 20 seconds.
 fn run_connection<R>(
     rt: &R,
-    caller: &Caller<'_>,
+    caller: &LoadClient<'_>,
     reads: &mut Tally,
     puts: &mut Tally,
 ) -> Result<(), Fault>
@@ -267,7 +267,7 @@ where
 }
 
 /// Runs one connection of a load, and adds its results.
-fn run_caller<R>(rt: &R, caller: &Caller<'_>, outcome: &Mutex<Outcome>)
+fn run_caller<R>(rt: &R, caller: &LoadClient<'_>, outcome: &Mutex<LoadResults>)
 where
     R: AllocGlobal + Clock + Wait + Net<Listener = TcpListener, Stream = TcpStream>,
 {
@@ -384,7 +384,7 @@ fn value_of(alloc: Global, size: u64) -> Result<Vec<u8>, AllocError> {
 }
 
 /// Runs all connections of a load at once, and waits for them.
-fn run_load<'a, R>(rt: R, load: &NodeLoad<'a>, outcome: &Mutex<Outcome>) -> Result<(), Fault>
+fn run_load<'a, R>(rt: R, load: &NodeLoad<'a>, outcome: &Mutex<LoadResults>) -> Result<(), Fault>
 where
     R: AllocGlobal + Eprint + Clock + Threads + Wait,
     R: Net<Listener = TcpListener, Stream = TcpStream> + Copy + Drop + Send + Sync + 'static,
@@ -393,7 +393,7 @@ where
     let before = nanoseconds(&rt)?;
     thread::scope(thread::scope_env(), &rt, |scope| {
         for index in 0..load.load.connections {
-            let caller = Caller {
+            let caller = LoadClient {
                 asker: load.asker.same(),
                 load: load.load,
                 value: load.value,
@@ -408,7 +408,7 @@ where
                 return Err(Fault::Memory);
             }
         }
-        if load.progress == Progress::Shown {
+        if load.progress == ProgressDisplay::Shown {
             tell_progress(&rt, load.load.seconds);
         }
         Ok(())
@@ -432,12 +432,17 @@ fn nanoseconds<R: Clock>(rt: &R) -> Result<u64, Fault> {
 /// each under way. Prints the counts of answers and refusals, the times within which half, 95 and
 /// 99 of 100 and all of the answers came, and a histogram of these times. Each connection puts as a
 /// client of its own, the same one in each run.
-pub fn bench<R>(rt: R, asker: &Asker<'_>, load: &Load, progress: Progress) -> Result<u8, Fault>
+pub fn bench<R>(
+    rt: R,
+    asker: &Asker<'_>,
+    load: &BenchLoad,
+    progress: ProgressDisplay,
+) -> Result<u8, Fault>
 where
     R: AllocGlobal + Print + Eprint + Clock + Threads + Wait,
     R: Net<Listener = TcpListener, Stream = TcpStream> + Copy + Drop + Send + Sync + 'static,
 {
-    let outcome = Mutex::new(Outcome {
+    let outcome = Mutex::new(LoadResults {
         reads: Tally::new(rt.alloc())?,
         puts: Tally::new(rt.alloc())?,
         fault: None,
@@ -450,7 +455,7 @@ where
         progress,
     };
     run_load(rt, &node_load, &outcome)?;
-    let Outcome { reads, puts, fault } = outcome.into_inner();
+    let LoadResults { reads, puts, fault } = outcome.into_inner();
     print_outcome(&rt, &reads, &puts, load.seconds)?;
     match fault {
         None => Ok(0),

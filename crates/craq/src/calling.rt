@@ -3,7 +3,7 @@ ghost use Rattle.std.specs.Prelude.{◌≡◌};
 
 use crate::deadline::Deadline;
 use crate::fault::Fault;
-use crate::link::Link;
+use crate::link::ServerLink;
 use craq_cli::Request;
 use craq_frames::{ClientMessage, ClientReply};
 use craq_front::{Stream, exchange};
@@ -196,7 +196,7 @@ pub fn explain<R: Eprint>(rt: &R, shown: &Shown) -> Result<(), Fault> {
 /// the answer, which may take 20 seconds. What is refused whatever the server says is not sent.
 pub fn shown_over<R>(
     rt: &R,
-    link: &mut Link<'_>,
+    link: &mut ServerLink<'_>,
     asker: &Asker<'_>,
     request: &Request,
 ) -> Result<Shown, Fault>

@@ -1,6 +1,6 @@
-//! `Chain`: a chain as the status of the server describes it; for `asking` and `people`.
+//! `ServedChain`: a chain as the status of the server describes it; for `asking` and `people`.
 use crate::deadline::Deadline;
-use crate::link::{Failure, Link};
+use crate::link::{Failure, ServerLink};
 use craq_frames::{ClientMessage, ClientReply};
 use craq_names::{ChainId, NodeId, Refusal};
 use craq_script::number_up_to;
@@ -14,7 +14,7 @@ const GREATEST_CHAIN: u64 = 65535;
 
 /// A chain.
 #[derive(Debug, Drop)]
-pub struct Chain {
+pub struct ServedChain {
     pub id: ChainId,
     pub name: String,
     /// The number of its membership.
@@ -45,7 +45,7 @@ fn nodes_of(alloc: Global, value: Option<&Value>) -> Result<Vec<NodeId>, Failure
 }
 
 /// Returns the chain of this id that an object describes.
-fn chain_of(alloc: Global, id: ChainId, value: &Value) -> Result<Chain, Failure> {
+fn chain_of(alloc: Global, id: ChainId, value: &Value) -> Result<ServedChain, Failure> {
     let members = nodes_of(alloc, value.get("members"))?;
     let (Some(name), Some(epoch)) = (
         value.get("name").and_then(Value::as_str),
@@ -53,7 +53,7 @@ fn chain_of(alloc: Global, id: ChainId, value: &Value) -> Result<Chain, Failure>
     ) else {
         return Err(Failure::NoReply);
     };
-    Ok(Chain {
+    Ok(ServedChain {
         id,
         name: String::from_str(alloc, name)?,
         epoch,
@@ -62,7 +62,7 @@ fn chain_of(alloc: Global, id: ChainId, value: &Value) -> Result<Chain, Failure>
 }
 
 /// Returns the chains that a value describes, by id.
-fn chains_in(alloc: Global, value: &Value) -> Result<Vec<Chain>, Failure> {
+fn chains_in(alloc: Global, value: &Value) -> Result<Vec<ServedChain>, Failure> {
     let Some(items) = value.get("chains").and_then(Value::as_array) else {
         return Err(Failure::NoReply);
     };
@@ -75,7 +75,7 @@ fn chains_in(alloc: Global, value: &Value) -> Result<Vec<Chain>, Failure> {
 }
 
 /// Returns the chains of a status text, by id. `NoReply` if the text does not describe chains.
-fn chains_of(alloc: Global, status: &str) -> Result<Vec<Chain>, Failure> {
+fn chains_of(alloc: Global, status: &str) -> Result<Vec<ServedChain>, Failure> {
     match Value::from_str(alloc, status) {
         Ok(value) => chains_in(alloc, &value),
         Err(error) if error.is_memory() => Err(Failure::Memory),
@@ -84,7 +84,11 @@ fn chains_of(alloc: Global, status: &str) -> Result<Vec<Chain>, Failure> {
 }
 
 /// Asks the server once for its chains, and waits until the deadline.
-pub fn chains<R>(rt: &R, link: &mut Link<'_>, deadline: Deadline) -> Result<Vec<Chain>, Failure>
+pub fn chains<R>(
+    rt: &R,
+    link: &mut ServerLink<'_>,
+    deadline: Deadline,
+) -> Result<Vec<ServedChain>, Failure>
 where
     R: AllocGlobal + Clock + Net<Listener = TcpListener, Stream = TcpStream>,
 {
@@ -97,7 +101,7 @@ where
 
 /// Returns the id of the chain of this name or, if none has that name, the id that the word is;
 /// `Refused` with `UnknownChain` if it is neither.
-pub fn id_of_word(chains: &[Chain], word: &str) -> Result<ChainId, Failure> {
+pub fn id_of_word(chains: &[ServedChain], word: &str) -> Result<ChainId, Failure> {
     for chain in chains {
         if chain.name.as_str() == word {
             return Ok(chain.id);
@@ -110,7 +114,7 @@ pub fn id_of_word(chains: &[Chain], word: &str) -> Result<ChainId, Failure> {
 }
 
 /// Returns the chain with this id; `Refused` with `UnknownChain` if there is none.
-pub fn chain_of_id(chains: Vec<Chain>, id: ChainId) -> Result<Chain, Failure> {
+pub fn chain_of_id(chains: Vec<ServedChain>, id: ChainId) -> Result<ServedChain, Failure> {
     for chain in chains {
         if chain.id == id {
             return Ok(chain);
@@ -121,7 +125,7 @@ pub fn chain_of_id(chains: Vec<Chain>, id: ChainId) -> Result<Chain, Failure> {
 
 /// Returns the members of the chain with this id, head first; `Refused` with `UnknownChain` if
 /// there is none.
-pub fn members_of(chains: &[Chain], id: ChainId) -> Result<&[NodeId], Failure> {
+pub fn members_of(chains: &[ServedChain], id: ChainId) -> Result<&[NodeId], Failure> {
     for chain in chains {
         if chain.id == id {
             return Ok(chain.members.as_slice());

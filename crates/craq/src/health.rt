@@ -2,9 +2,9 @@
 //! `people`.
 use crate::asking::{Target, answered, known_chains};
 use crate::bench::microseconds;
-use crate::chains::{Chain, chain_of_id};
+use crate::chains::{ServedChain, chain_of_id};
 use crate::fault::{Fault, NO_CONNECTION, REFUSED};
-use crate::link::{Failure, Link};
+use crate::link::{Failure, ServerLink};
 use crate::output::{health_json, member_line, update_line};
 use crate::reporting::{print_json, report_failure, tell, write_out};
 use craq_cli::Request;
@@ -101,7 +101,7 @@ fn note_update(target: &mut Target, reply: &ClientReply) -> Result<Option<u64>, 
 /// too small.
 fn ask_update<R>(
     rt: &R,
-    link: &mut Link<'_>,
+    link: &mut ServerLink<'_>,
     target: &mut Target,
     client: u64,
     number: u64,
@@ -121,7 +121,7 @@ where
 /// Asks the update, and returns its microseconds.
 fn update_time<R>(
     rt: &R,
-    link: &mut Link<'_>,
+    link: &mut ServerLink<'_>,
     target: &mut Target,
     client: u64,
 ) -> Result<u64, Failure>
@@ -157,7 +157,7 @@ fn note_read(target: &mut Target, reply: &ClientReply) -> Result<(), Failure> {
 /// Asks a strong read of this node, which may take 2 seconds.
 fn ask_read<R>(
     rt: &R,
-    link: &mut Link<'_>,
+    link: &mut ServerLink<'_>,
     target: &mut Target,
     node: NodeId,
 ) -> Result<(), Failure>
@@ -177,7 +177,11 @@ where
 }
 
 /// Returns the target's chain. Asks for the chains until they come or the target's deadline.
-fn known_chain<R>(rt: &R, link: &mut Link<'_>, target: &Target) -> Result<Chain, Failure>
+fn known_chain<R>(
+    rt: &R,
+    link: &mut ServerLink<'_>,
+    target: &Target,
+) -> Result<ServedChain, Failure>
 where
     R: AllocGlobal + Clock + Wait + Net<Listener = TcpListener, Stream = TcpStream>,
 {
@@ -195,7 +199,12 @@ fn time<R: Clock>(rt: &R) -> Result<Duration, Failure> {
 
 /// Asks a strong read of a member, and returns its outcome. Fails if the server or this program
 /// fails, and not a single member.
-fn look<R>(rt: &R, link: &mut Link<'_>, target: &mut Target, node: NodeId) -> Result<Seen, Failure>
+fn look<R>(
+    rt: &R,
+    link: &mut ServerLink<'_>,
+    target: &mut Target,
+    node: NodeId,
+) -> Result<Seen, Failure>
 where
     R: AllocGlobal + Clock + Wait + Net<Listener = TcpListener, Stream = TcpStream>,
 {
@@ -218,7 +227,7 @@ fn print_member<R: AllocGlobal + Print>(rt: &R, node: NodeId, seen: &Seen) -> Re
 /// Looks at each member in turn, and prints its line at once if the output is text.
 fn look_at_all<R>(
     rt: &R,
-    link: &mut Link<'_>,
+    link: &mut ServerLink<'_>,
     target: &mut Target,
     members: &[NodeId],
     form: OutputForm,
@@ -327,7 +336,7 @@ fn status_of(members: &[(NodeId, Seen)]) -> u8 {
 /// the outcomes of the members of the chain of this name. Returns the status.
 fn finish<R>(
     rt: &R,
-    link: &mut Link<'_>,
+    link: &mut ServerLink<'_>,
     target: &mut Target,
     client: u64,
     seen: (&str, &[(NodeId, Seen)], OutputForm),
@@ -360,7 +369,7 @@ where
 /// update. Returns the status.
 pub fn examine<R>(
     rt: &R,
-    link: &mut Link<'_>,
+    link: &mut ServerLink<'_>,
     target: &mut Target,
     client: u64,
     form: OutputForm,

@@ -1,4 +1,4 @@
-//! `Link`: the connection to the server, kept from one request to the next; for `shell` and
+//! `ServerLink`: the connection to the server, kept from one request to the next; for `shell` and
 //! `asking`.
 use crate::calling::connection;
 use crate::deadline::Deadline;
@@ -45,7 +45,7 @@ impl<T: Drop> From<AllocFailed<T>> for Failure {
 
 /// A connection to the server, which is made again after a fault.
 #[derive(Drop)]
-pub struct Link<'a> {
+pub struct ServerLink<'a> {
     /// Where the server listens: a host and a port.
     address: &'a str,
     /// The connection; `None` before the first request, and after a fault.
@@ -67,10 +67,10 @@ fn is_open(stream: &TcpStream) -> bool {
     }
 }
 
-impl<'a> Link<'a> {
+impl<'a> ServerLink<'a> {
     /// Makes a link. The first request makes the connection.
     pub fn new(address: &'a str) -> Self {
-        Link {
+        ServerLink {
             address,
             stream: None,
         }

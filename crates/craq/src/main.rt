@@ -23,7 +23,7 @@ mod timed;
 mod watch;
 
 use asking::known_chains;
-use bench::Progress;
+use bench::ProgressDisplay;
 use calling::{Asker, Shown, explain, shown_over};
 use chains::members_of;
 use craq_cli::{
@@ -34,7 +34,7 @@ use craq_names::{ChainId, NodeId};
 use deadline::Deadline;
 use fault::{Fault, REFUSED};
 use identity::default_address;
-use link::Link;
+use link::ServerLink;
 use output::ValueEnd;
 use people::{Setting, run_verb};
 use shell::Terminals;
@@ -54,7 +54,7 @@ use watch::Watched;
 /// status.
 fn ask_once<R>(
     rt: &R,
-    link: &mut Link<'_>,
+    link: &mut ServerLink<'_>,
     asker: &Asker<'_>,
     request: &Request,
 ) -> Result<u8, Fault>
@@ -84,7 +84,7 @@ fn print_shown<R: Print>(rt: &R, shown: &Shown) -> Result<u8, Fault> {
 }
 
 /// Returns the node of a line: the one that it names, else the head of chain 0.
-fn node_of<R>(rt: &R, link: &mut Link<'_>, node: Option<NodeId>) -> Result<NodeId, Fault>
+fn node_of<R>(rt: &R, link: &mut ServerLink<'_>, node: Option<NodeId>) -> Result<NodeId, Fault>
 where
     R: AllocGlobal + Clock + Wait + Net<Listener = TcpListener, Stream = TcpStream>,
 {
@@ -108,11 +108,11 @@ fn value_end_at(terminals: Terminals) -> ValueEnd {
 }
 
 /// Returns whether a load shows its progress: on a terminal.
-fn progress_at(terminals: Terminals) -> Progress {
+fn progress_at(terminals: Terminals) -> ProgressDisplay {
     if terminals.errors {
-        Progress::Shown
+        ProgressDisplay::Shown
     } else {
-        Progress::Hidden
+        ProgressDisplay::Hidden
     }
 }
 
@@ -128,7 +128,7 @@ where
     R: AllocGlobal + Env + Files + RandomSource + Input + Print + Eprint + Clock + Wait,
     R: Net<Listener = TcpListener, Stream = TcpStream>,
 {
-    let mut link = Link::new(address);
+    let mut link = ServerLink::new(address);
     let mut setting = Setting {
         node: line.node,
         pass: line.pass,
@@ -149,7 +149,7 @@ where
     R: AllocGlobal + Env + Files + RandomSource + Input + Print + Eprint + Clock + Threads + Wait,
     R: Net<Listener = TcpListener, Stream = TcpStream> + Copy + Drop + Send + Sync + 'static,
 {
-    let mut link = Link::new(address);
+    let mut link = ServerLink::new(address);
     let asker = Asker {
         address,
         node: node_of(&rt, &mut link, line.node)?,

@@ -1,5 +1,5 @@
 //! The output of verbs for people: a reply as text or as a JSON object; for `people`.
-use crate::chains::Chain;
+use crate::chains::ServedChain;
 use crate::health::{READ_SECONDS, Seen};
 use craq_cli::{ValueForm, VerbOptions};
 use craq_commands::Reply;
@@ -268,7 +268,7 @@ fn push_nodes(text: &mut String, nodes: &[NodeId], between: &str) -> Result<(), 
 
 /// Returns the chains as text: on each line a name and the members, head first. Fails only when out
 /// of memory.
-pub fn chains_text(alloc: Global, chains: &[Chain]) -> Result<String, AllocError> {
+pub fn chains_text(alloc: Global, chains: &[ServedChain]) -> Result<String, AllocError> {
     let mut text = String::new(alloc);
     for chain in chains {
         text.push_str(chain.name.as_str())?;
@@ -280,7 +280,11 @@ pub fn chains_text(alloc: Global, chains: &[Chain]) -> Result<String, AllocError
 }
 
 /// Appends a chain as a JSON object.
-fn push_json_chain(text: &mut String, alloc: Global, chain: &Chain) -> Result<(), AllocError> {
+fn push_json_chain(
+    text: &mut String,
+    alloc: Global,
+    chain: &ServedChain,
+) -> Result<(), AllocError> {
     let (id, epoch) = (chain.id.get(), chain.epoch);
     let name = json_string(alloc, chain.name.as_str())?;
     write!(
@@ -293,7 +297,7 @@ fn push_json_chain(text: &mut String, alloc: Global, chain: &Chain) -> Result<()
 
 /// Returns the chains as the members of a JSON object, without its braces. Fails only when out of
 /// memory.
-pub fn chains_json(alloc: Global, chains: &[Chain]) -> Result<String, AllocError> {
+pub fn chains_json(alloc: Global, chains: &[ServedChain]) -> Result<String, AllocError> {
     let mut text = String::from_str(alloc, "\"chains\":[")?;
     for (index, chain) in chains.iter().enumerate() {
         text.push_str(if index > 0 { "," } else { "" })?;

@@ -7,7 +7,7 @@ use crate::deadline::Deadline;
 use crate::fault::Fault;
 use crate::health::{OutputForm, examine};
 use crate::identity::{client_id, nanoseconds};
-use crate::link::{Failure, Link};
+use crate::link::{Failure, ServerLink};
 use crate::output::{ValueEnd, chains_json, chains_text, reply_json, reply_text};
 use crate::quoting::{push_shown, push_word};
 use crate::reporting::{print_json, report_failure, tell, write_out};
@@ -73,14 +73,14 @@ enum Wrong {
 
 /// The client of an update, and its number.
 #[derive(Clone, Copy, Debug)]
-struct Named {
+struct UpdateId {
     client: u64,
     number: u64,
 }
 
 /// The state of an update after one number was tried.
 #[derive(Clone, Copy, Debug)]
-enum Next {
+enum NumberOutcome {
     /// The update is over; this is the status.
     Over(u8),
     /// The number was never used for it; the next one lies above this number.
@@ -89,7 +89,7 @@ enum Next {
 
 /// The kind of a verb.
 #[derive(Clone, Copy, Debug, PartialEq, Eq)]
-enum Kind {
+enum VerbKind {
     Update,
     Read,
     Members,
@@ -148,12 +148,12 @@ fn bytes_of_words<R: AllocGlobal + Input>(
 }
 
 /// Returns the kind of a verb.
-fn kind_of(verb: &Verb) -> Kind {
+fn kind_of(verb: &Verb) -> VerbKind {
     match verb {
-        Verb::Ask(Request::Read { .. }) => Kind::Read,
-        Verb::Ask(_) => Kind::Update,
-        Verb::Members => Kind::Members,
-        Verb::Health => Kind::Health,
+        Verb::Ask(Request::Read { .. }) => VerbKind::Read,
+        Verb::Ask(_) => VerbKind::Update,
+        Verb::Members => VerbKind::Members,
+        Verb::Health => VerbKind::Health,
     }
 }
 
@@ -198,10 +198,10 @@ fn report_limit<R: Eprint>(rt: &R, refusal: Refusal) -> Result<u8, Fault> {
 /// Returns the command that asks an update again under its number.
 fn again_command(
     alloc: Global,
-    link: &Link<'_>,
+    link: &ServerLink<'_>,
     setting: &Setting,
     words: Words<'_>,
-    named: Named,
+    named: UpdateId,
 ) -> Result<String, AllocError> {
     let (client, number) = (named.client, named.number);
     let mut text = format!(in alloc; "craq --client {client} --number {number} --connect")?;
@@ -229,10 +229,10 @@ fn again_command(
 /// Prints the command that asks an update again, which may have been done.
 fn report_open<R: AllocGlobal + Eprint>(
     rt: &R,
-    link: &Link<'_>,
+    link: &ServerLink<'_>,
     setting: &Setting,
     words: Words<'_>,
-    named: Named,
+    named: UpdateId,
 ) -> Result<(), Fault> {
     let again = again_command(rt.alloc(), link, setting, words, named)?;
     let again = again.as_str();
@@ -245,7 +245,7 @@ fn report_open<R: AllocGlobal + Eprint>(
 }
 
 /// Returns what the words of a verb do not name.
-fn context_of(line: &VerbLine<'_>, chain: ChainId, named: Named) -> VerbContext {
+fn context_of(line: &VerbLine<'_>, chain: ChainId, named: UpdateId) -> VerbContext {
     VerbContext {
         chain,
         client: ClientId::new(named.client),
@@ -256,8 +256,8 @@ fn context_of(line: &VerbLine<'_>, chain: ChainId, named: Named) -> VerbContext 
 }
 
 /// Checks the words, and returns the kind of the verb.
-fn check(alloc: Global, words: Words<'_>) -> Result<Kind, Wrong> {
-    let named = Named {
+fn check(alloc: Global, words: Words<'_>) -> Result<VerbKind, Wrong> {
+    let named = UpdateId {
         client: 0,
         number: words.line.options.number.unwrap_or(1),
     };
@@ -288,7 +288,7 @@ fn request_of(
     alloc: Global,
     words: Words<'_>,
     chain: ChainId,
-    named: Named,
+    named: UpdateId,
 ) -> Result<Request, Fault> {
     let context = context_of(words.line, chain, named);
     match verb_of(alloc, &context, words.bytes) {
@@ -397,7 +397,7 @@ fn target_of<R: Clock>(
 /// Asks a read, and prints the reply. Returns the status.
 fn read<R>(
     rt: &R,
-    link: &mut Link<'_>,
+    link: &mut ServerLink<'_>,
     setting: &mut Setting,
     words: Words<'_>,
     chain: ChainId,
@@ -406,7 +406,7 @@ where
     R: AllocGlobal + Print + Eprint + Clock + Wait,
     R: Net<Listener = TcpListener, Stream = TcpStream>,
 {
-    let named = Named {
+    let named = UpdateId {
         client: 0,
         number: 1,
     };
@@ -424,10 +424,10 @@ where
 /// Returns the status.
 fn report_unanswered<R: AllocGlobal + Eprint>(
     rt: &R,
-    link: &Link<'_>,
+    link: &ServerLink<'_>,
     setting: &Setting,
     words: Words<'_>,
-    update: (Named, Unanswered),
+    update: (UpdateId, Unanswered),
 ) -> Result<u8, Fault> {
     let (named, unanswered) = update;
     let status = report_failure(rt, link, unanswered.failure)?;
@@ -440,11 +440,11 @@ fn report_unanswered<R: AllocGlobal + Eprint>(
 /// Asks an update under a number, and prints the reply or the fault.
 fn update_as<R>(
     rt: &R,
-    link: &mut Link<'_>,
+    link: &mut ServerLink<'_>,
     setting: &mut Setting,
     words: Words<'_>,
-    update: (ChainId, Named),
-) -> Result<Next, Fault>
+    update: (ChainId, UpdateId),
+) -> Result<NumberOutcome, Fault>
 where
     R: AllocGlobal + Print + Eprint + Clock + Wait,
     R: Net<Listener = TcpListener, Stream = TcpStream>,
@@ -458,7 +458,7 @@ where
         Ok((reply, is_open)) => judge(rt, link, setting, words, (named, &reply, is_open)),
         Err(unanswered) => {
             let update = (named, unanswered);
-            Ok(Next::Over(report_unanswered(rt, link, setting, words, update)?))
+            Ok(NumberOutcome::Over(report_unanswered(rt, link, setting, words, update)?))
         }
     }
 }
@@ -467,23 +467,23 @@ where
 /// earlier try may have done the update.
 fn judge<R>(
     rt: &R,
-    link: &Link<'_>,
+    link: &ServerLink<'_>,
     setting: &mut Setting,
     words: Words<'_>,
-    replied: (Named, &ClientReply, bool),
-) -> Result<Next, Fault>
+    replied: (UpdateId, &ClientReply, bool),
+) -> Result<NumberOutcome, Fault>
 where
     R: AllocGlobal + Print + Eprint,
 {
     let (named, reply, is_open) = replied;
     let stale = stale_of(reply);
     if let (Some(last), None, false) = (stale, words.line.options.number, is_open) {
-        return Ok(Next::Above(last));
+        return Ok(NumberOutcome::Above(last));
     }
     if stale.is_some() && is_open {
         report_open(rt, link, setting, words, named)?;
     }
-    Ok(Next::Over(show(rt, setting, words.line, reply)?))
+    Ok(NumberOutcome::Over(show(rt, setting, words.line, reply)?))
 }
 
 /// Returns the client's id: the one that the options name, else the default.
@@ -501,7 +501,7 @@ where
 /// and is exchanged for a larger one. Returns the status.
 fn update<R>(
     rt: &R,
-    link: &mut Link<'_>,
+    link: &mut ServerLink<'_>,
     setting: &mut Setting,
     words: Words<'_>,
     chain: ChainId,
@@ -517,10 +517,10 @@ where
             Some(number) => number,
             None => nanoseconds(rt)?.max(above.saturating_add(1)),
         };
-        let named = Named { client, number };
+        let named = UpdateId { client, number };
         match update_as(rt, link, setting, words, (chain, named))? {
-            Next::Over(status) => return Ok(status),
-            Next::Above(last) => above = last,
+            NumberOutcome::Over(status) => return Ok(status),
+            NumberOutcome::Above(last) => above = last,
         }
     }
     tell(
@@ -531,7 +531,12 @@ where
 }
 
 /// Prints the chains and their members. Returns the status.
-fn members<R>(rt: &R, link: &mut Link<'_>, setting: &Setting, words: Words<'_>) -> Result<u8, Fault>
+fn members<R>(
+    rt: &R,
+    link: &mut ServerLink<'_>,
+    setting: &Setting,
+    words: Words<'_>,
+) -> Result<u8, Fault>
 where
     R: AllocGlobal + Print + Eprint + Clock + Wait,
     R: Net<Listener = TcpListener, Stream = TcpStream>,
@@ -553,7 +558,7 @@ where
 /// Examines a chain. Returns the status.
 fn health<R>(
     rt: &R,
-    link: &mut Link<'_>,
+    link: &mut ServerLink<'_>,
     setting: &mut Setting,
     words: Words<'_>,
     chain: ChainId,
@@ -575,7 +580,7 @@ where
 }
 
 /// Returns the chain that the options name, by name or by number; chain 0 if they name none.
-fn chain_of<R>(rt: &R, link: &mut Link<'_>, words: Words<'_>) -> Result<ChainId, Failure>
+fn chain_of<R>(rt: &R, link: &mut ServerLink<'_>, words: Words<'_>) -> Result<ChainId, Failure>
 where
     R: AllocGlobal + Clock + Wait + Net<Listener = TcpListener, Stream = TcpStream>,
 {
@@ -589,16 +594,16 @@ where
 /// Runs a verb whose words were checked. Returns the status.
 fn run_kind<R>(
     rt: &R,
-    link: &mut Link<'_>,
+    link: &mut ServerLink<'_>,
     setting: &mut Setting,
     words: Words<'_>,
-    kind: Kind,
+    kind: VerbKind,
 ) -> Result<u8, Fault>
 where
     R: AllocGlobal + Env + Files + RandomSource + Print + Eprint + Clock + Wait,
     R: Net<Listener = TcpListener, Stream = TcpStream>,
 {
-    if kind == Kind::Members {
+    if kind == VerbKind::Members {
         return members(rt, link, setting, words);
     }
     let chain = match chain_of(rt, link, words) {
@@ -606,8 +611,8 @@ where
         Err(failure) => return report_failure(rt, link, failure),
     };
     match kind {
-        Kind::Update => update(rt, link, setting, words, chain),
-        Kind::Read => read(rt, link, setting, words, chain),
+        VerbKind::Update => update(rt, link, setting, words, chain),
+        VerbKind::Read => read(rt, link, setting, words, chain),
         _ => health(rt, link, setting, words, chain),
     }
 }
@@ -615,7 +620,7 @@ where
 /// Checks the words of a verb, and runs it. Returns the status.
 fn run_words<R>(
     rt: &R,
-    link: &mut Link<'_>,
+    link: &mut ServerLink<'_>,
     setting: &mut Setting,
     words: Words<'_>,
 ) -> Result<u8, Fault>
@@ -637,7 +642,7 @@ where
 /// if nothing was written, 6 if the object was never written.
 pub fn run_verb<R>(
     rt: &R,
-    link: &mut Link<'_>,
+    link: &mut ServerLink<'_>,
     setting: &mut Setting,
     line: &VerbLine<'_>,
 ) -> Result<u8, Fault>

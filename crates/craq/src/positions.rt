@@ -20,7 +20,7 @@ const FOUND: &str = "HTTP/1.1 200 ";
 
 /// The positions of a node.
 #[derive(Clone, Copy, Debug)]
-struct Positions {
+struct NodePositions {
     node: u64,
     is_ready: bool,
     is_running: bool,
@@ -28,10 +28,10 @@ struct Positions {
     length: u64,
 }
 
-impl Positions {
+impl NodePositions {
     /// Returns the positions that an object gives, if it gives them.
     fn of(value: &Value) -> Option<Self> {
-        Some(Positions {
+        Some(NodePositions {
             node: value.get("node")?.as_u64()?,
             is_ready: value.get("ready")?.as_bool()?,
             is_running: value.get("running")?.as_bool()?,
@@ -94,7 +94,7 @@ fn body_of(response: &str) -> Option<&str> {
 fn push_nodes(text: &mut String, nodes: &[Value]) -> Result<bool, AllocError> {
     let mut mark = ':';
     for value in nodes {
-        let Some(found) = Positions::of(value) else {
+        let Some(found) = NodePositions::of(value) else {
             return Ok(false);
         };
         let (node, condition) = (found.node, found.condition());

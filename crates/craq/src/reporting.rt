@@ -1,7 +1,7 @@
 //! Prints what `craq` tells people: lines on standard error, and output of verbs; for `people` and
 //! `health`.
 use crate::fault::{Fault, MAYBE_FULL, NO_CONNECTION, REFUSED};
-use crate::link::{Failure, Link};
+use crate::link::{Failure, ServerLink};
 use craq_names::{Pass, Refusal};
 
 /// Prints a line on standard error.
@@ -37,7 +37,7 @@ fn report_refused<R: AllocGlobal + Eprint>(rt: &R, refusal: Refusal) -> Result<u
 /// Prints why a request was not answered. Returns the status.
 pub fn report_failure<R: AllocGlobal + Eprint>(
     rt: &R,
-    link: &Link<'_>,
+    link: &ServerLink<'_>,
     failure: Failure,
 ) -> Result<u8, Fault> {
     let address = link.address();

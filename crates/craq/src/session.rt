@@ -1,4 +1,4 @@
-//! `Session`: the state of a prompt: the node that it asks, the largest pass that it was given, and
+//! `PromptState`: the state of a prompt: the node that it asks, the largest pass that it was given, and
 //! the lines that were entered; for `shell`.
 ghost use Rattle.std.specs.Prelude.{◌≡◌, ◌++◌, [], ◌∷◌, max, OnOk, OnErr};
 
@@ -8,20 +8,20 @@ use std::alloc::{AllocError, Global};
 
 /// The state of a prompt.
 #[derive(Drop)]
-pub struct Session<'a> {
+pub struct PromptState<'a> {
     /// The node that is asked, with the largest pass that a reply gave so far.
     asker: Asker<'a>,
     /// The lines that were entered, in order.
     lines: Vec<String>,
 }
 
-impl<'a> Session<'a> {
+impl<'a> PromptState<'a> {
     /// Makes a prompt without lines. Takes no memory.
     pub fn new(alloc: Global, asker: &Asker<'a>) -> Self
         ensures asker { result.asker ≡ asker.now }
         ensures lines { result.lines.items ≡ [] }
     {
-        Session {
+        PromptState {
             asker: asker.same(),
             lines: Vec::new(alloc),
         }

@@ -2,10 +2,10 @@
 //! before; called by `main`.
 use crate::calling::{Asker, Shown, explain, shown_over};
 use crate::fault::{Fault, IdSource, REFUSED};
-use crate::link::Link;
+use crate::link::ServerLink;
 use crate::output::ValueEnd;
 use crate::people::{Setting, run_verb};
-use crate::session::Session;
+use crate::session::PromptState;
 use craq_cli::{
     BadWord, CallLine, CommandFault, Expected, Request, Task, UsageError, VERSION, is_verb,
     report_words, request_of,
@@ -53,16 +53,16 @@ pub struct Terminals {
 
 /// An open prompt.
 #[derive(Drop)]
-struct Open<'a> {
+struct OpenPrompt<'a> {
     /// Who is asked, the pass, and the lines so far.
-    session: Session<'a>,
+    session: PromptState<'a>,
     /// The connection.
-    link: Link<'a>,
+    link: ServerLink<'a>,
 }
 
 /// The way in which lines are entered.
 #[derive(Clone, Copy, Debug, PartialEq, Eq)]
-enum Entry {
+enum InputMode {
     /// At a terminal, behind a prompt.
     Prompted,
     /// From a file or a pipe.
@@ -155,7 +155,7 @@ fn print_unread<R: Print + Eprint>(rt: &R, fault: &CommandFault) -> Result<(), F
 }
 
 /// Runs a verb for people that was parsed, and shows its pass from now on.
-fn run_call<R>(rt: &R, open: &mut Open<'_>, line: &CallLine<'_>) -> Result<(), Fault>
+fn run_call<R>(rt: &R, open: &mut OpenPrompt<'_>, line: &CallLine<'_>) -> Result<(), Fault>
 where
     R: AllocGlobal + Env + Files + RandomSource + Input + Print + Eprint + Clock + Wait,
     R: Net<Listener = TcpListener, Stream = TcpStream>,
@@ -193,7 +193,7 @@ fn print_bad_id<R: Eprint>(rt: &R, source: IdSource) -> Result<(), Fault> {
 }
 
 /// Runs a verb for people.
-fn run_verb_line<R>(rt: &R, open: &mut Open<'_>, words: &[&str]) -> Result<(), Fault>
+fn run_verb_line<R>(rt: &R, open: &mut OpenPrompt<'_>, words: &[&str]) -> Result<(), Fault>
 where
     R: AllocGlobal + Env + Files + RandomSource + Input + Print + Eprint + Clock + Wait,
     R: Net<Listener = TcpListener, Stream = TcpStream>,
@@ -211,7 +211,7 @@ where
 
 /// Sends the request of a command's words, and prints the answer or the fault. Fails, and ends the
 /// prompt, only if the output takes no text or when out of memory.
-fn ask<R>(rt: &R, open: &mut Open<'_>, words: &[&str]) -> Result<(), Fault>
+fn ask<R>(rt: &R, open: &mut OpenPrompt<'_>, words: &[&str]) -> Result<(), Fault>
 where
     R: AllocGlobal + Print + Eprint + Clock + Net<Listener = TcpListener, Stream = TcpStream>,
 {
@@ -223,7 +223,7 @@ where
 }
 
 /// Sends a request, and prints the answer, or that there is no connection.
-fn ask_for<R>(rt: &R, open: &mut Open<'_>, request: &Request) -> Result<(), Fault>
+fn ask_for<R>(rt: &R, open: &mut OpenPrompt<'_>, request: &Request) -> Result<(), Fault>
 where
     R: AllocGlobal + Print + Eprint + Clock + Net<Listener = TcpListener, Stream = TcpStream>,
 {
@@ -238,7 +238,7 @@ where
 /// Prints an answer, and shows its pass from now on.
 fn print_shown<R: Print + Eprint>(
     rt: &R,
-    session: &mut Session<'_>,
+    session: &mut PromptState<'_>,
     shown: &Shown,
 ) -> Result<(), Fault> {
     if let Some(pass) = shown.pass {
@@ -261,7 +261,7 @@ fn print_bad<R: AllocGlobal + Eprint>(rt: &R, bad: &BadWord, words: &[&str]) -> 
 }
 
 /// Sets the node that is asked from now on to the one that the words name.
-fn ask_node<R: Eprint>(rt: &R, session: &mut Session<'_>, words: &[&str]) -> Result<(), Fault> {
+fn ask_node<R: Eprint>(rt: &R, session: &mut PromptState<'_>, words: &[&str]) -> Result<(), Fault> {
     let [_, word] = *words else {
         return print_wrong(rt, "expected node N");
     };
@@ -275,7 +275,7 @@ fn ask_node<R: Eprint>(rt: &R, session: &mut Session<'_>, words: &[&str]) -> Res
 }
 
 /// Prints the lines so far.
-fn print_history<R: Print>(rt: &R, session: &Session<'_>) -> Result<(), Fault> {
+fn print_history<R: Print>(rt: &R, session: &PromptState<'_>) -> Result<(), Fault> {
     for (index, line) in session.lines().iter().enumerate() {
         let number = index as u64 + 1;
         let line = line.as_str();
@@ -287,7 +287,7 @@ fn print_history<R: Print>(rt: &R, session: &Session<'_>) -> Result<(), Fault> {
 }
 
 /// Prints the pass that is shown.
-fn print_pass<R: Print>(rt: &R, session: &Session<'_>) -> Result<(), Fault> {
+fn print_pass<R: Print>(rt: &R, session: &PromptState<'_>) -> Result<(), Fault> {
     let pass = session.asker().pass.stamp().get();
     match println!(rt; "pass {pass}") {
         Ok(()) => Ok(()),
@@ -296,7 +296,7 @@ fn print_pass<R: Print>(rt: &R, session: &Session<'_>) -> Result<(), Fault> {
 }
 
 /// Returns the line that `!K` names, or `None` if there is no such line.
-fn line_of_number<'b>(session: &'b Session<'_>, number: &str) -> Option<&'b String> {
+fn line_of_number<'b>(session: &'b PromptState<'_>, number: &str) -> Option<&'b String> {
     let Ok(number) = number_up_to(u64::MAX, number.as_bytes()) else {
         return None;
     };
@@ -310,7 +310,7 @@ fn line_of_number<'b>(session: &'b Session<'_>, number: &str) -> Option<&'b Stri
 /// line that there is not.
 fn meant(
     alloc: Global,
-    session: &Session<'_>,
+    session: &PromptState<'_>,
     entered: &str,
 ) -> Result<Option<String>, AllocError> {
     let line = entered.trim();
@@ -324,7 +324,7 @@ fn meant(
 }
 
 /// Runs the words of a line. Returns whether the prompt is over.
-fn run_words<R>(rt: &R, open: &mut Open<'_>, words: &[&str]) -> Result<bool, Fault>
+fn run_words<R>(rt: &R, open: &mut OpenPrompt<'_>, words: &[&str]) -> Result<bool, Fault>
 where
     R: AllocGlobal + Env + Files + RandomSource + Input + Print + Eprint + Clock + Wait,
     R: Net<Listener = TcpListener, Stream = TcpStream>,
@@ -344,7 +344,7 @@ where
 }
 
 /// Runs a line. Returns whether the prompt is over.
-fn run_line<R>(rt: &R, open: &mut Open<'_>, line: &str) -> Result<bool, Fault>
+fn run_line<R>(rt: &R, open: &mut OpenPrompt<'_>, line: &str) -> Result<bool, Fault>
 where
     R: AllocGlobal + Env + Files + RandomSource + Input + Print + Eprint + Clock + Wait,
     R: Net<Listener = TcpListener, Stream = TcpStream>,
@@ -354,7 +354,7 @@ where
 }
 
 /// Runs the line that an entered one means, and keeps it. Returns whether the prompt is over.
-fn run_entered<R>(rt: &R, open: &mut Open<'_>, entered: &str) -> Result<bool, Fault>
+fn run_entered<R>(rt: &R, open: &mut OpenPrompt<'_>, entered: &str) -> Result<bool, Fault>
 where
     R: AllocGlobal + Env + Files + RandomSource + Input + Print + Eprint + Clock + Wait,
     R: Net<Listener = TcpListener, Stream = TcpStream>,
@@ -405,11 +405,11 @@ fn greet<R: Print>(rt: &R, asker: &Asker<'_>) -> Result<(), Fault> {
 }
 
 /// Returns the way in which lines are entered.
-fn entry_at(terminals: Terminals) -> Entry {
+fn entry_at(terminals: Terminals) -> InputMode {
     if terminals.input {
-        Entry::Prompted
+        InputMode::Prompted
     } else {
-        Entry::Piped
+        InputMode::Piped
     }
 }
 
@@ -418,7 +418,7 @@ fn entry_at(terminals: Terminals) -> Entry {
 /// terminal alone.
 pub fn shell<R>(
     rt: &R,
-    link: Link<'_>,
+    link: ServerLink<'_>,
     asker: &Asker<'_>,
     terminals: Terminals,
 ) -> Result<u8, Fault>
@@ -429,8 +429,8 @@ where
     if terminals.input {
         greet(rt, asker)?;
     }
-    let mut open = Open {
-        session: Session::new(rt.alloc(), asker),
+    let mut open = OpenPrompt {
+        session: PromptState::new(rt.alloc(), asker),
         link,
     };
     let taken = take_lines(rt, &mut open, entry_at(terminals));
@@ -440,13 +440,13 @@ where
 }
 
 /// Takes lines until one ends the prompt or there are no more.
-fn take_lines<R>(rt: &R, open: &mut Open<'_>, entry: Entry) -> Result<(), Fault>
+fn take_lines<R>(rt: &R, open: &mut OpenPrompt<'_>, entry: InputMode) -> Result<(), Fault>
 where
     R: AllocGlobal + Env + Files + RandomSource + Input + Print + Eprint + Clock + Wait,
     R: Net<Listener = TcpListener, Stream = TcpStream>,
 {
     for _ in 0..u64::MAX {
-        if entry == Entry::Prompted {
+        if entry == InputMode::Prompted {
             print_text(rt, "craq> ")?;
         }
         match next_line(rt)? {
@@ -459,7 +459,14 @@ where
             }
             Entered::NotText => print_wrong(rt, "the line is not text in UTF-8")?,
             Entered::End => {
-                return print_text(rt, if entry == Entry::Prompted { "\n" } else { "" });
+                return print_text(
+                    rt,
+                    if entry == InputMode::Prompted {
+                        "\n"
+                    } else {
+                        ""
+                    },
+                );
             }
         }
     }

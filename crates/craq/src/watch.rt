@@ -2,7 +2,7 @@
 //! changes; called by `main`.
 use crate::deadline::Deadline;
 use crate::fault::Fault;
-use crate::link::{Failure, Link};
+use crate::link::{Failure, ServerLink};
 use crate::positions::read_positions;
 use craq_frames::{ClientMessage, ClientReply};
 use std::net::{Net, TcpListener, TcpStream};
@@ -30,7 +30,7 @@ fn status<R>(rt: &R, address: &str, deadline: Deadline) -> Result<String, Failur
 where
     R: AllocGlobal + Clock + Net<Listener = TcpListener, Stream = TcpStream>,
 {
-    match Link::new(address).ask(rt, &ClientMessage::Status, deadline)? {
+    match ServerLink::new(address).ask(rt, &ClientMessage::Status, deadline)? {
         ClientReply::Status(status) => {
             let status = status.as_str();
             Ok(format!(in rt.alloc(); "{status}\n")?)

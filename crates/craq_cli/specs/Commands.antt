@@ -23,7 +23,7 @@ use Rattle.craq_cli.specs.declared.task.Request.{Request}
 use Rattle.craq_cli.specs.declared.task.Request.TheVariants as asks
 use Rattle.craq_cli.specs.declared.task.Task.{Task}
 use Rattle.craq_cli.specs.declared.task.Task.TheVariants as tasks
-use Rattle.craq_cli.specs.declared.task.Load.{Load}
+use Rattle.craq_cli.specs.declared.task.BenchLoad.{BenchLoad}
 use Rattle.craq_cli.specs.Loads.{usual_load}
 
 infixl 10 ◌>>=◌
@@ -143,7 +143,7 @@ unfoldable pub request_of : ℕ → List (List ℕ) → Result Request BadWord
 request_of node words = word_at expected.Command name_of words 0 >>= request_as node words
 
 -- CONNECTIONS SECONDS READS
-unfoldable pub worded_load : List (List ℕ) → Result Load BadWord
+unfoldable pub worded_load : List (List ℕ) → Result BenchLoad BadWord
 worded_load words = do
   connections ← word_at expected.Connections (number_between 1 1000) words 1
   seconds ← word_at expected.Seconds (number_between 1 86400) words 2
@@ -151,7 +151,7 @@ worded_load words = do
   at_end (record usual_load { connections = connections; seconds = seconds; reads = reads }) words 4
 
 -- nothing, or CONNECTIONS SECONDS READS
-unfoldable pub load_of : List (List ℕ) → Result Load BadWord
+unfoldable pub load_of : List (List ℕ) → Result BenchLoad BadWord
 load_of words = if nat_le (length words) 1 then Ok usual_load else worded_load words
 
 -- nothing, or SECONDS

@@ -8,7 +8,7 @@ use Rattle.craq_script.specs.Words.{mode_of}
 use Rattle.craq_cli.specs.Numbers.{number_between}
 use Rattle.craq_cli.specs.declared.verb_options.CheckedOption.{CheckedOption}
 use Rattle.craq_cli.specs.declared.verb_options.CheckedOption.TheVariants as options
-use Rattle.craq_cli.specs.declared.task.Load.{Load}
+use Rattle.craq_cli.specs.declared.task.BenchLoad.{BenchLoad}
 use Rattle.craq_cli.specs.declared.verb_options.BadOption.{BadOption}
 use Rattle.craq_cli.specs.declared.verb_options.BadOption.TheVariants as bad
 
@@ -75,7 +75,7 @@ abbrev pub ◌>>=◌ : {A B : Type 0} → Result A CheckedOption → (A → Resu
 (Err option) >>= f = Err option
 
 -- a load with the numbers of the options that have texts
-unfoldable pub load_in : Load → Found → Result Load CheckedOption
+unfoldable pub load_in : BenchLoad → Found → Result BenchLoad CheckedOption
 load_in load found = do
   connections ← number_in options.Connections found
   seconds ← number_in options.Seconds found

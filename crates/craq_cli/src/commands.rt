@@ -4,7 +4,7 @@ ghost use Rattle.craq_script.specs.Words.{item_of};
 ghost use Rattle.craq_cli.specs.Commands.{Reads, expect, in_line, word_at, object_and_value, object_and_number, test_and_set_of, items_from, change_of, command_update, read_of, name_of, request_of, worded_load, load_of, watch_of, task_of};
 
 use crate::words::{at_end, bad, bytes_at, is_line_word, mode_at, number_at, object_at, value_at};
-use crate::{Expected, Load, Request, Task, UsageError};
+use crate::{BenchLoad, Expected, Request, Task, UsageError};
 use craq_names::{ClientId, Items, NodeId, Version};
 use craq_script::{MiniItem, ParseError, ScriptCommand, ScriptObject, UpdateLine, item_of};
 use std::alloc::Global;
@@ -240,14 +240,14 @@ pub fn request_of(alloc: Global, node: NodeId, words: &[&str]) -> Result<Request
 
 /// Reads CONNECTIONS SECONDS READS.
 #[tactic(auto, unfolding(crate::specs::Commands::worded_load))]
-fn worded_load(words: &[&str]) -> Result<Load, UsageError>
+fn worded_load(words: &[&str]) -> Result<BenchLoad, UsageError>
     ensures { Reads (λ x. x) result (worded_load (map (λ w. w.now) words.now)) }
 {
-    let usual = Load::usual();
+    let usual = BenchLoad::usual();
     let connections = number_at(words, 1, Expected::Connections, 1, 1000)?;
     let seconds = number_at(words, 2, Expected::Seconds, 1, 86400)?;
     let reads = number_at(words, 3, Expected::Reads, 0, 100)?;
-    let load = Load {
+    let load = BenchLoad {
         connections,
         seconds,
         reads,
@@ -259,11 +259,11 @@ fn worded_load(words: &[&str]) -> Result<Load, UsageError>
 
 /// Reads nothing, or CONNECTIONS SECONDS READS.
 #[tactic(auto, unfolding(crate::specs::Commands::load_of))]
-fn load_of(words: &[&str]) -> Result<Load, UsageError>
+fn load_of(words: &[&str]) -> Result<BenchLoad, UsageError>
     ensures { Reads (λ x. x) result (load_of (map (λ w. w.now) words.now)) }
 {
     if words.len() <= 1 {
-        return Ok(Load::usual());
+        return Ok(BenchLoad::usual());
     }
     worded_load(words)
 }

@@ -32,7 +32,7 @@ pub use program::{
 pub use raw::{has_raw_bytes, raw_bytes, raw_words_of};
 pub use server::Line;
 pub use streams::{Placeholders, open_placeholders};
-pub use task::{Load, Request, Task, ValueForm, Verb, VerbContext, VerbLine, VerbOptions};
+pub use task::{BenchLoad, Request, Task, ValueForm, Verb, VerbContext, VerbLine, VerbOptions};
 pub use verbs::{is_verb, verb_of};
 
 /// The version that `--version` prints behind the name of each program.

@@ -20,7 +20,7 @@ pub enum Request {
 
 /// The load of `craq bench`.
 #[derive(Clone, Copy, Debug, PartialEq, Eq)]
-pub struct Load {
+pub struct BenchLoad {
     /// The number of connections, 1 to 1,000, each with one request under way.
     pub connections: u64,
     /// For how many seconds, 1 to 86,400.
@@ -33,7 +33,7 @@ pub struct Load {
     pub size: u64,
 }
 
-impl Load {
+impl BenchLoad {
     ghost use Rattle.std.specs.Prelude.{◌≡◌};
     ghost use Rattle.craq_cli.specs.Loads.{usual_load};
 
@@ -42,7 +42,7 @@ impl Load {
     pub const fn usual() -> Self
         ensures { result ≡ usual_load }
     {
-        Load {
+        BenchLoad {
             connections: 50,
             seconds: 10,
             reads: 50,
@@ -128,7 +128,7 @@ pub enum Task<'a> {
     /// number.
     Watch(Option<u64>),
     /// A load on the server, and its results as a table.
-    Bench(Load),
+    Bench(BenchLoad),
     /// A prompt.
     Shell,
 }

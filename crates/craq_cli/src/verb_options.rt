@@ -4,7 +4,7 @@ ghost use Rattle.std.specs.Prelude.{◌≡◌, ◌≤◌, IfOk, IfSome};
 ghost use Rattle.clap.specs.Words.{found_of};
 ghost use Rattle.craq_cli.specs.VerbOptions.{name_of, least_of, greatest_of, number_in, load_in, mode_in, Has};
 
-use crate::Load;
+use crate::BenchLoad;
 use crate::numbers::number_between;
 use clap::ArgMatches;
 use craq_commands::ReadMode;
@@ -200,7 +200,7 @@ pub(crate) fn number_in(
 
 /// Returns a load with the numbers of the options that were given.
 #[tactic(auto, unfolding(crate::specs::VerbOptions::load_in))]
-pub(crate) fn load_in(matches: &ArgMatches<'_>, load: Load) -> Result<Load, BadOption>
+pub(crate) fn load_in(matches: &ArgMatches<'_>, load: BenchLoad) -> Result<BenchLoad, BadOption>
     ensures { Has result (load_in load (found_of matches.now)) }
 {
     let connections = number_in(matches, CheckedOption::Connections)?;
@@ -208,7 +208,7 @@ pub(crate) fn load_in(matches: &ArgMatches<'_>, load: Load) -> Result<Load, BadO
     let reads = number_in(matches, CheckedOption::Mix)?;
     let keys = number_in(matches, CheckedOption::Keys)?;
     let size = number_in(matches, CheckedOption::Size)?;
-    Ok(Load {
+    Ok(BenchLoad {
         connections: connections.unwrap_or(load.connections),
         seconds: seconds.unwrap_or(load.seconds),
         reads: reads.unwrap_or(load.reads),

@@ -1,7 +1,7 @@
 //! `CompletionQueue`: the completion queue of one thread or one client; made by the clients of
 //! `craq_workers` and the event loops of `craq_server`.
 use crate::queue_state::{Completion, Outcome, QueueState};
-use crate::token::Token;
+use crate::token::CallToken;
 use mio::Waker;
 use std::alloc::{AllocError, Global};
 use std::sync::{Condvar, Mutex, Wait};
@@ -33,7 +33,7 @@ impl<T: Drop> CompletionQueue<T> {
     }
 
     /// Puts in a completion for which there is room. Drops one that is not expected.
-    pub(crate) fn put<R: Wait>(&self, rt: &R, token: Token, reply: T) {
+    pub(crate) fn put<R: Wait>(&self, rt: &R, token: CallToken, reply: T) {
         let mut state = self.state.lock(rt);
         if !state.expects() {
             return;

@@ -4,7 +4,7 @@ ghost use Rattle.std.specs.Prelude.{◌≡◌, IfOk};
 
 use crate::completion_queue::CompletionQueue;
 use crate::queue_state::Outcome;
-use crate::token::Token;
+use crate::token::CallToken;
 use std::alloc::AllocError;
 use std::marker::Model;
 use std::sync::{Arc, Wait};
@@ -14,13 +14,13 @@ use std::sync::{Arc, Wait};
 #[derive(Drop)]
 pub struct CompletionSender<T: Drop = Outcome> {
     completions: Arc<CompletionQueue<T>>,
-    token: Token,
+    token: CallToken,
 }
 
 impl<T: Drop> Model for CompletionSender<T> {
-    ghost use Rattle.craq_completions.specs.declared.token.Token.{Token};
+    ghost use Rattle.craq_completions.specs.declared.token.CallToken.{CallToken};
 
-    ghost Value = { Token };
+    ghost Value = { CallToken };
 
     ghost view = { λ a. a.token };
 }
@@ -31,7 +31,7 @@ impl<T: Drop> CompletionSender<T> {
     pub fn expect<R: Wait>(
         rt: &R,
         completions: &Arc<CompletionQueue<T>>,
-        token: Token,
+        token: CallToken,
     ) -> Result<Self, AllocError>
         ensures { IfOk result (λ a. a ≡ token) }
     {

@@ -22,4 +22,4 @@ pub use completion_sender::CompletionSender;
 pub use queue_state::{Completion, Outcome};
 pub use refusing::{is_update, refusal_of_call};
 pub use sorting::receipts_by_chain;
-pub use token::Token;
+pub use token::CallToken;

@@ -2,7 +2,7 @@
 //! `completion_queue`, under its lock.
 ghost use Rattle.std.specs.Prelude.{◌≡◌, ◌≤◌, ◌↔◌, ◌+◌, ◌-◌, ◌++◌, [], ◌∷◌, None, false, true, IfSome, IsTrue, OnErr, OnOk};
 
-use crate::token::Token;
+use crate::token::CallToken;
 use craq_names::Refusal;
 use craq_seat::CallReceipt;
 use std::alloc::{AllocError, Global};
@@ -15,7 +15,7 @@ pub type Outcome = Result<CallReceipt, Refusal>;
 /// `Outcome`, unless the queue's owner needs more of it.
 #[derive(Drop)]
 pub struct Completion<T: Drop = Outcome> {
-    pub token: Token,
+    pub token: CallToken,
     pub reply: T,
 }
 

@@ -4,7 +4,7 @@ use Rattle.slab.specs.Slab.{Slab, get, with_value}
 use Rattle.slab.proofs.SlabLemmas.{Updates-with_value}
 use Rattle.craq_names.specs.declared.refusal.Refusal.{Refusal}
 use Rattle.craq_seat.specs.Calls.{Called}
-use Rattle.craq_completions.specs.declared.token.Token.{Token}
+use Rattle.craq_completions.specs.declared.token.CallToken.{CallToken}
 use Rattle.craq_session.specs.Asking.{Calling, Finishing, IsAsked, IsOutcome, IsRefusedAtOnce}
 use Rattle.craq_session.specs.ConnectionStates.{AnswersCall, Took}
 use Rattle.craq_session.specs.Halves.{IsRefusable}
@@ -101,7 +101,7 @@ module _ {T : Type 0} (most : ℕ) (tells : List ℕ → Type 0) (refuses : Refu
 
 module _ {S T : Type 0} (most : ℕ) (tells : List ℕ → Type 0) (refuses : Refusing) where
   -- a connection has had its round in its slab, if its new value is stored under its key
-  pub turned_at : (submits : Token → Calling T) (s : Slab (Connection S T)) (key : ℕ) (c d : Connection S T)
+  pub turned_at : (submits : CallToken → Calling T) (s : Slab (Connection S T)) (key : ℕ) (c d : Connection S T)
       → get s key ≡ Some c → HasRound most tells refuses (under_key submits key) c.over c.state c.calls d.state d.calls → d.stream ≡ c.stream → d.over ≡ c.over → d.busy ≡ c.busy → KeepsSlot c d → d.readiness ≡ c.readiness
       → HasRoundAt most tells refuses submits s (with_value s key d) key
   turned_at submits s key c d was took same ends marked slot ready c' here =

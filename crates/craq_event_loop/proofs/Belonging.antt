@@ -11,7 +11,7 @@ use Rattle.craq_session.specs.declared.connection_state.Ending.TheVariants as en
 use Rattle.craq_session.specs.declared.connection_state.Phase.{Phase}
 use Rattle.craq_session.specs.declared.connection_state.Phase.TheVariants as phases
 use Rattle.craq_completions.specs.declared.queue_state.Completion.{Completion}
-use Rattle.craq_completions.specs.declared.token.Token.{Token}
+use Rattle.craq_completions.specs.declared.token.CallToken.{CallToken}
 use Rattle.slab.specs.Slab.{Slab, get, with_value}
 use Rattle.slab.proofs.SlabLemmas.{Updates-with_value}
 use Rattle.craq_event_loop.specs.declared.connection.Connection.{Connection}
@@ -93,7 +93,7 @@ taken_busy : {S T R : Type 0} (finishes : Finishing T R) (number : ℕ) (reply :
 taken_busy finishes number reply c d takes = record { own = takes.own; another = takes.another; calls = takes.calls; stream = takes.stream; over = takes.over; readiness = takes.readiness; slot = takes.slot }
 
 -- the connection under the token's key takes the completion, and then has something to do
-pub delivered : {S T R : Type 0} (finishes : Finishing T R) (s t : Slab (Connection S T)) (token : Token) (c d : Connection S T) (reply : R)
+pub delivered : {S T R : Type 0} (finishes : Finishing T R) (s t : Slab (Connection S T)) (token : CallToken) (c d : Connection S T) (reply : R)
     → get s token.connection ≡ Some c → TakesCompletion finishes token.call reply c d → Wakes (with_value s token.connection d) t token.connection → Delivers finishes s t token reply
 delivered finishes s t token c d reply was takes wakes c' here =
     let e : c' ≡ c = cc in

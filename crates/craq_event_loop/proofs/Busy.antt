@@ -14,7 +14,7 @@ use Rattle.slab.specs.Slab.{Slab, get, slab_len}
 use Rattle.slab.proofs.SlabLemmas.{Contains-cons, Contains-cons_cases}
 use Rattle.craq_event_loop.specs.declared.connection.Connection.{Connection}
 use Rattle.craq_event_loop.specs.Belonging.{Alone, OneByOne, OthersStay, StaysVacant}
-use Rattle.craq_event_loop.specs.declared.event_loop.Members.{Members}
+use Rattle.craq_event_loop.specs.declared.event_loop.LoopConnections.{LoopConnections}
 use Rattle.craq_event_loop.specs.Busy.{HasNone, IsBehind, ListsMarked, MarksBehind, NoneForgotten, is_marked}
 
 -- slots that are vacant in one list and in another are no more there
@@ -458,7 +458,7 @@ module _ {S T : Type 0} where
   none_behind s none key c here is = (let vacant : get s key ≡ None = none_there s.slots none key in cc)
 
   -- a thread that has no connections yet forgets none
-  pub none_forgotten : {R : Type 0} (m : Members S T R) → HasNone m → NoneForgotten m
+  pub none_forgotten : {R : Type 0} (m : LoopConnections S T R) → HasNone m → NoneForgotten m
   none_forgotten m h = record {
     listed = none_listed m.connections m.busy m.behind h.0 (no_items m.busy h.1) (none_waiting m.behind h.2);
     behind = none_behind m.connections h.0;

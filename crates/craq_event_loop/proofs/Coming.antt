@@ -8,7 +8,7 @@ use Rattle.std.proofs.lemmas.List.{append_assoc, get_or_past, map-append}
 use Rattle.slab.specs.Slab.{SameValues, Slab, get, slab_len}
 use Rattle.mio.specs.declared.event.event.Event.{Event}
 use Rattle.craq_event_loop.specs.declared.connection.Connection.{Connection}
-use Rattle.craq_event_loop.specs.declared.event_loop.Members.{Members}
+use Rattle.craq_event_loop.specs.declared.event_loop.LoopConnections.{LoopConnections}
 use Rattle.craq_event_loop.specs.Belonging.{OthersStay, StaysVacant, Wakes}
 use Rattle.craq_event_loop.specs.Busy.{IsIdle, ListsMarked, MarksBehind, NoneForgotten}
 use Rattle.craq_event_loop.specs.Coming.{AllReported, ChangesRoom, EndsIdle, ClosesIfIdle, LooksAt, NoticesAt, PresentStay, TakesIn, TellsOf, key_of}
@@ -151,21 +151,21 @@ module _ {S T : Type 0} where
       behind_woken t u w key (behind_same s t (same_values s t same) marks) others wakes vacant others_too
 
   -- where a connection was taken in, or nothing changed but room, those that were there are as they were
-  stays_taken : {R : Type 0} (stream : S) (session : T) (slot receipts : ℕ) (m n : Members S T R) → TakesIn stream session slot receipts m n → PresentStay m.connections n.connections
+  stays_taken : {R : Type 0} (stream : S) (session : T) (slot receipts : ℕ) (m n : LoopConnections S T R) → TakesIn stream session slot receipts m n → PresentStay m.connections n.connections
   stays_taken stream session slot receipts m n taken key c was =
       let differs : key ≢ taken.key = λ same. (let none : get m.connections key ≡ None = ap (get m.connections) same ∙ taken.was_vacant in cc) in
       taken.others key differs ∙ was
 
-  stays_grown : {R : Type 0} (m n : Members S T R) → ChangesRoom m n → PresentStay m.connections n.connections
+  stays_grown : {R : Type 0} (m n : LoopConnections S T R) → ChangesRoom m n → PresentStay m.connections n.connections
   stays_grown m n grown key c was = grown.connections key ∙ was
 
-  pub stays_either : {R E : Type 0} (stream : S) (session : T) (slot receipts : ℕ) (m n : Members S T R) (came : Result (Unit {0}) E) → OnOk came (NoneForgotten m → TakesIn stream session slot receipts m n)
+  pub stays_either : {R E : Type 0} (stream : S) (session : T) (slot receipts : ℕ) (m n : LoopConnections S T R) (came : Result (Unit {0}) E) → OnOk came (NoneForgotten m → TakesIn stream session slot receipts m n)
       → OnErr came (ChangesRoom m n) → NoneForgotten m → PresentStay m.connections n.connections
   stays_either stream session slot receipts m n (Ok u) taken grown k = stays_taken stream session slot receipts m n (taken k)
   stays_either stream session slot receipts m n (Err e) taken grown k = stays_grown m n grown
 
   -- those with work left wait as they did, whether a connection was taken in or not
-  pub waits_either : {R E : Type 0} (stream : S) (session : T) (slot receipts : ℕ) (m n : Members S T R) (came : Result (Unit {0}) E) → OnOk came (NoneForgotten m → TakesIn stream session slot receipts m n)
+  pub waits_either : {R E : Type 0} (stream : S) (session : T) (slot receipts : ℕ) (m n : LoopConnections S T R) (came : Result (Unit {0}) E) → OnOk came (NoneForgotten m → TakesIn stream session slot receipts m n)
       → OnErr came (ChangesRoom m n) → NoneForgotten m → n.behind.items ≡ m.behind.items
   waits_either stream session slot receipts m n (Ok u) taken grown k = (taken k).behind
   waits_either stream session slot receipts m n (Err e) taken grown k = grown.behind

@@ -8,7 +8,7 @@ use Rattle.std.proofs.lemmas.Bool.Decides.{nat_tests}
 use Rattle.std.proofs.lemmas.List.{append-nil, append_assoc, take_all}
 use Rattle.slab.specs.Slab.{Slab, get, with_value}
 use Rattle.slab.proofs.SlabLemmas.{Updates-with_value}
-use Rattle.craq_completions.specs.declared.token.Token.{Token}
+use Rattle.craq_completions.specs.declared.token.CallToken.{CallToken}
 use Rattle.craq_session.specs.Asking.{Calling}
 use Rattle.craq_session.specs.Turns.{Refusing}
 use Rattle.craq_event_loop.specs.declared.connection.Connection.{Connection}
@@ -16,7 +16,7 @@ use Rattle.craq_event_loop.specs.Advancing.{HasRoundAt, TakeRounds, most_steps}
 use Rattle.craq_event_loop.specs.Belonging.{Alone, OneByOne, OthersStay, StaysVacant, Wakes}
 use Rattle.craq_event_loop.specs.Busy.{IsBehind, ListsMarked, MarksBehind, MarksJustBehind, NoneForgotten, Rests, is_marked, with_key}
 use Rattle.craq_event_loop.specs.Serving.{ReadsAt, StaysUnlessDone, WritesAt}
-use Rattle.craq_event_loop.specs.declared.event_loop.Members.{Members}
+use Rattle.craq_event_loop.specs.declared.event_loop.LoopConnections.{LoopConnections}
 use Rattle.craq_event_loop.proofs.Busy.{IsRightAt, KeepsMarks, behind_everywhere, behind_still, has_room, listed_after, listed_more, listed_still, marks_alone, marks_kept, marks_then, once_last, one_kept, one_left_out, right_after, room_to_keep, untouched, waiting_kept}
 
 pub was_off : (reported mark : Bool) → reported ≡ not mark → reported ≡ true → mark ≡ false
@@ -79,7 +79,7 @@ module _ {S T : Type 0} where
   keys_stay keys key o c was marked = rw (was, marked) refl
 
   -- where the lists name the connections that are marked, each that is behind is, and the lists name none, none is behind
-  pub none_is_behind : {P : Type 0} (m : Members S T P) (key : ℕ) (c : Connection S T) → NoneForgotten m → Rests m → get m.connections key ≡ Some c → IsBehind c → ⊥
+  pub none_is_behind : {P : Type 0} (m : LoopConnections S T P) (key : ℕ) (c : Connection S T) → NoneForgotten m → Rests m → get m.connections key ≡ Some c → IsBehind c → ⊥
   none_is_behind m key c k rests here is =
       let on : is_marked (get m.connections key) ≡ true = ap is_marked here ∙ k.behind key c here is in
       let none : m.behind.items ++ m.busy.items ≡ [] = ap (λ (x : List ℕ). x ++ m.busy.items) rests.1 ∙ rests.0 in
@@ -156,7 +156,7 @@ module _ {S T : Type 0} where
       → Wakes (with_value s key d) t key → StaysVacant (with_value s key d) t key → OthersStay (with_value s key d) t key → MarksBehind t
   behind_changed s t key c d marks was = behind_woken s (with_value s key d) t key marks (others_with s key c d was)
 
-module _ {S T : Type 0} (remaining contents : S → Option (List ℕ)) (is_over is_dry is_full : S → Type 0) (tells : List ℕ → Type 0) (refuses : Refusing) (submits : Token → Calling T) where
+module _ {S T : Type 0} (remaining contents : S → Option (List ℕ)) (is_over is_dry is_full : S → Type 0) (tells : List ℕ → Type 0) (refuses : Refusing) (submits : CallToken → Calling T) where
   keeps_read : KeepsMarks {S = S} {T = T} (ReadsAt remaining contents is_over is_dry is_full)
   keeps_read s t key reads c was = ((reads c was).0, (reads c was).1, (reads c was).2.busy)
 

@@ -2,7 +2,7 @@
 use Rattle.std.proofs.Common.{◌≡◌, ◌⊎◌, ◌↔◌, ◌∙◌, ◌++◌, ℕ, Bool, true, false, not, IsTrue, List, [], Option, Result, inl, inr, sym, refl, ap, append_assoc, subst}
 use Rattle.std.specs.Io.KnownBytes.{Appends, Consumes}
 use Rattle.std.proofs.lemmas.List.{append-nil}
-use Rattle.craq_completions.specs.declared.token.Token.{Token}
+use Rattle.craq_completions.specs.declared.token.CallToken.{CallToken}
 use Rattle.craq_front.proofs.Known.{appends_none, appends_then, consumes_none, consumes_then}
 use Rattle.craq_session.specs.Asking.{Calling, Finishing}
 use Rattle.craq_session.specs.ConnectionStates.{AnswersCall, Continues}
@@ -60,7 +60,7 @@ module _ {T R : Type 0} (finishes : Finishing T R) (old new : ConnectionState T)
   pub written_rests : (last : ConnectionState T) (a b : Option (List ℕ)) → Writes a b new last → is_waiting last.phase ≡ false
   written_rests last a b writes = ap is_waiting writes.2.phase ∙ completed_rests (is_waiting old.phase) refl
 
-module _ {T R : Type 0} (tells : List ℕ → Type 0) (refuses : Refusing) (submits : Token → Calling T) (finishes : Finishing T R) where
+module _ {T R : Type 0} (tells : List ℕ → Type 0) (refuses : Refusing) (submits : CallToken → Calling T) (finishes : Finishing T R) where
   completes_reaches : (first : ConnectionState T) (read written : List ℕ) (old new : ConnectionState T) → CompletesCall finishes old new
       → (waits : Bool) → is_waiting old.phase ≡ waits → Reaches tells refuses submits finishes first read written old → Reaches tells refuses submits finishes first read written new
   completes_reaches first read written old new outcome true under reached = (let came = outcome.0 under in completes read written old new came.0 reached came.1)

@@ -5,14 +5,14 @@ use Rattle.slab.specs.Slab.{Slab, get, with_value}
 use Rattle.slab.proofs.SlabLemmas.{Contains-entries, Updates-with_value, length-entries}
 use Rattle.mio.specs.declared.event.event.Event.{Event}
 use Rattle.craq_completions.specs.declared.queue_state.Completion.{Completion}
-use Rattle.craq_completions.specs.declared.token.Token.{Token}
+use Rattle.craq_completions.specs.declared.token.CallToken.{CallToken}
 use Rattle.craq_session.specs.Asking.{Calling, Finishing}
 use Rattle.craq_session.specs.Turns.{Refusing}
 use Rattle.craq_session.specs.declared.connection_state.ConnectionState.{ConnectionState}
 use Rattle.craq_session.specs.declared.connection_state.Stepped.{Stepped}
 use Rattle.craq_session.specs.declared.connection_state.Stepped.TheVariants as steps
 use Rattle.craq_event_loop.specs.declared.connection.Connection.{Connection}
-use Rattle.craq_event_loop.specs.declared.event_loop.Members.{Members}
+use Rattle.craq_event_loop.specs.declared.event_loop.LoopConnections.{LoopConnections}
 use Rattle.craq_event_loop.specs.Advancing.{HasRound, HasRoundAt, IsLast, IsNoCall, TakeRounds, TakesRound, TakesSteps, gives_way, most_steps, rests, step, under_key}
 use Rattle.craq_event_loop.specs.Belonging.{DeliversAll, DeliversBrought, DeliversCompletion, IsNew, OneByOne, OthersStay, StaysVacant, TakesCompletion, Writes}
 use Rattle.craq_event_loop.specs.Busy.{HasNone, NoneForgotten}
@@ -77,7 +77,7 @@ module _ {S T : Type 0} (P : ConnectionState T → Type 0) where
   so_idle : (now idle : ℕ) (s t : Slab (Connection S T)) → EndsIdle now idle s t → AllSo s → AllSo t
   so_idle now idle s t ends all key d here = idle_so now idle (get s key) d (get t key) (ends key) here (all key)
 
-module _ {T R : Type 0} (tells : List ℕ → Type 0) (refuses : Refusing) (submits : Token → Calling T) (finishes : Finishing T R) (first : ConnectionState T) (read written : List ℕ) where
+module _ {T R : Type 0} (tells : List ℕ → Type 0) (refuses : Refusing) (submits : CallToken → Calling T) (finishes : Finishing T R) (first : ConnectionState T) (read written : List ℕ) where
   abbrev Reached : ConnectionState T → Type 0
   Reached state = Reaches tells refuses submits finishes first read written state
 
@@ -93,7 +93,7 @@ module _ {T R : Type 0} (tells : List ℕ → Type 0) (refuses : Refusing) (subm
   has_round_reaches most true old new key before after (same, none) r = subst Reached (sym same) r
   has_round_reaches most false old new key before after round r = round_reaches most old new key before after round r
 
-module _ {T R : Type 0} (is_new : T → Type 0) (tells : List ℕ → Type 0) (refuses : Refusing) (submits : Token → Calling T) (finishes : Finishing T R) where
+module _ {T R : Type 0} (is_new : T → Type 0) (tells : List ℕ → Type 0) (refuses : Refusing) (submits : CallToken → Calling T) (finishes : Finishing T R) where
   abbrev Reachable : ConnectionState T → Type 0
   Reachable state = IsReachable is_new tells refuses submits finishes state
 
@@ -198,7 +198,7 @@ module _ {T R : Type 0} (is_new : T → Type 0) (tells : List ℕ → Type 0) (r
     new_reachable : (c : Connection S T) → IsNew c → is_new c.state.session → Reachable c.state
     new_reachable c new fresh = (c.state, fresh, [], [], begins new.nothing_came new.idle)
 
-    module _ {P : Type 0} (m n : Members S T P) where
+    module _ {P : Type 0} (m n : LoopConnections S T P) where
       taken_reachable : (stream : S) (session : T) (slot receipts : ℕ) → is_new session → TakesIn stream session slot receipts m n
           → AreReachable is_new tells refuses submits finishes m.connections → AreReachable is_new tells refuses submits finishes n.connections
       taken_reachable stream session slot receipts fresh taken r key d here =
@@ -219,11 +219,11 @@ module _ {T R : Type 0} (is_new : T → Type 0) (tells : List ℕ → Type 0) (r
       either_reachable stream session slot receipts fresh (Ok u) taken grown k r = taken_reachable stream session slot receipts fresh (taken k) r
       either_reachable stream session slot receipts fresh (Err e) taken grown k r = grown_reachable grown r
 
-    pub looked_reachable : {P : Type 0} (m n : Members S T P) (now : ℕ) → (now ≢ m.now → EndsIdle now m.idle m.connections n.connections) → (now ≡ m.now → n ≡ m)
+    pub looked_reachable : {P : Type 0} (m n : LoopConnections S T P) (now : ℕ) → (now ≢ m.now → EndsIdle now m.idle m.connections n.connections) → (now ≡ m.now → n ≡ m)
         → AreReachable is_new tells refuses submits finishes m.connections → AreReachable is_new tells refuses submits finishes n.connections
     looked_reachable {P = P} m n now ends same r =
         elim (cases_eq now m.now) [
-          | inl is ↦ subst (λ (x : Members S T P). AreReachable is_new tells refuses submits finishes x.connections) (sym (same is)) r
+          | inl is ↦ subst (λ (x : LoopConnections S T P). AreReachable is_new tells refuses submits finishes x.connections) (sym (same is)) r
           | inr differs ↦ so_idle Reachable now m.idle m.connections n.connections (ends differs) r
         ]
 
@@ -232,7 +232,7 @@ module _ {T R : Type 0} (is_new : T → Type 0) (tells : List ℕ → Type 0) (r
     reported_reachable events s t reported r = so_reported Reachable events s t reported r
 
     -- where there is no connection
-    pub none_reachable : {P : Type 0} (m : Members S T P) → HasNone m → AreReachable is_new tells refuses submits finishes m.connections
+    pub none_reachable : {P : Type 0} (m : LoopConnections S T P) → HasNone m → AreReachable is_new tells refuses submits finishes m.connections
     none_reachable m none key c here =
         let found = (Contains-entries m.connections key c).1 here in
         absurd (omega (arith, found.1, length-entries m.connections, none.0))

@@ -12,7 +12,7 @@ use Rattle.craq_session.specs.declared.connection_state.Stepped.TheVariants as s
 use Rattle.craq_session.specs.ConnectionStates.{CutsOff, Found, Took}
 use Rattle.craq_event_loop.specs.declared.connection.Connection.{Connection}
 use Rattle.craq_event_loop.specs.Busy.{IsBehind, LeavesNoFrame, NoneBehind, NoneForgotten, Rests}
-use Rattle.craq_event_loop.specs.declared.event_loop.Members.{Members}
+use Rattle.craq_event_loop.specs.declared.event_loop.LoopConnections.{LoopConnections}
 use Rattle.craq_event_loop.specs.Starved.{IsStarved}
 use Rattle.craq_event_loop.proofs.Marks.{none_is_behind}
 
@@ -77,7 +77,7 @@ none_left c rests on empty free = by_more c.more refl
     by_more false is = c.unread is
 
 -- where the lists of a thread name no connection none is behind, and none leaves a frame
-pub none_is_left : {S T P : Type 0} (m : Members S T P) → NoneForgotten m → Rests m → NoneBehind m.connections
+pub none_is_left : {S T P : Type 0} (m : LoopConnections S T P) → NoneForgotten m → Rests m → NoneBehind m.connections
 none_is_left m k rests key c here =
     let rested : ¬ (IsBehind c) = λ is. none_is_behind m key c k rests here is in
     (rested, none_left c rested)

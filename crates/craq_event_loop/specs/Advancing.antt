@@ -3,7 +3,7 @@ use Rattle.std.specs.Prelude.{◌≡◌, ◌⊎◌, ◌+◌, ◌%◌, ◌^◌, �
 use Rattle.slab.specs.Slab.{Slab, get}
 use Rattle.craq_names.specs.declared.refusal.Refusal.{Refusal}
 use Rattle.craq_seat.specs.Calls.{Called}
-use Rattle.craq_completions.specs.declared.token.Token.{Token}
+use Rattle.craq_completions.specs.declared.token.CallToken.{CallToken}
 use Rattle.craq_session.specs.Asking.{Calling, MayHaveAny}
 use Rattle.craq_session.specs.ConnectionStates.{Took}
 use Rattle.craq_session.specs.Halves.{IsRefusable}
@@ -27,7 +27,7 @@ numbers_after number zero = []
 numbers_after number (suc count) = next_call number ∷ numbers_after (next_call number) count
 
 -- a submission under the key of a connection, by the number of its call
-abbrev pub under_key : {T : Type 0} → (Token → Calling T) → ℕ → ℕ → Calling T
+abbrev pub under_key : {T : Type 0} → (CallToken → Calling T) → ℕ → ℕ → Calling T
 under_key submits key number = submits (record { connection = key; call = number })
 
 -- nothing of the connection state changed but its session
@@ -93,12 +93,12 @@ HasRound most tells refuses submits false old before new after = TakesRound most
 
 -- under this key, the connection had its round: its backend got each call under this key and the number after that of the call before.
 -- Its socket, its mark, its slot and its readiness are unchanged, and so is whether it is over
-abbrev pub HasRoundAt : {S T : Type 0} → ℕ → (List ℕ → Type 0) → Refusing → (Token → Calling T) → Slab (Connection S T) → Slab (Connection S T) → ℕ → Type 0
+abbrev pub HasRoundAt : {S T : Type 0} → ℕ → (List ℕ → Type 0) → Refusing → (CallToken → Calling T) → Slab (Connection S T) → Slab (Connection S T) → ℕ → Type 0
 HasRoundAt {S} {T} most tells refuses submits old new key =
     (c : Connection S T) → get old key ≡ Some c
     → (d : Connection S T) × (get new key ≡ Some d) × HasRound most tells refuses (under_key submits key) c.over c.state c.calls d.state d.calls × (d.stream ≡ c.stream) × (d.over ≡ c.over) × (d.busy ≡ c.busy) × KeepsSlot c d × (d.readiness ≡ c.readiness)
 
 -- the connections under these keys have their rounds, one after another, in which the backend gets calls under their own keys; and
 -- no other connection changes
-abbrev pub TakeRounds : {S T : Type 0} → (List ℕ → Type 0) → Refusing → (Token → Calling T) → List ℕ → Slab (Connection S T) → Slab (Connection S T) → Type 0
+abbrev pub TakeRounds : {S T : Type 0} → (List ℕ → Type 0) → Refusing → (CallToken → Calling T) → List ℕ → Slab (Connection S T) → Slab (Connection S T) → Type 0
 TakeRounds tells refuses submits keys old new = OneByOne (λ mid next key. HasRoundAt most_steps tells refuses submits mid next key) keys old new

@@ -6,7 +6,7 @@ use Rattle.craq_names.specs.declared.refusal.Refusal.{Refusal}
 use Rattle.craq_front.specs.Talk.{Exchanges}
 use Rattle.craq_seat.specs.Calls.{Called}
 use Rattle.craq_completions.specs.declared.queue_state.Completion.{Completion}
-use Rattle.craq_completions.specs.declared.token.Token.{Token}
+use Rattle.craq_completions.specs.declared.token.CallToken.{CallToken}
 use Rattle.craq_session.specs.Asking.{Finishing, IsOutcome}
 use Rattle.craq_session.specs.ConnectionStates.{AnswersCall, Holds}
 use Rattle.craq_session.specs.declared.call_request.CallRequest.{CallRequest}
@@ -95,7 +95,7 @@ pub record TakesCompletion {S T R : Type 0} (finishes : Finishing T R) (number :
   pub slot : KeepsSlot old new
 
 -- the connection whose key is in this token takes the completion under the number that is there
-abbrev pub Delivers : {S T R : Type 0} → Finishing T R → Slab (Connection S T) → Slab (Connection S T) → Token → R → Type 0
+abbrev pub Delivers : {S T R : Type 0} → Finishing T R → Slab (Connection S T) → Slab (Connection S T) → CallToken → R → Type 0
 Delivers {S} {T} finishes old new token reply =
     (c : Connection S T) → get old token.connection ≡ Some c
     → (d : Connection S T) × (get new token.connection ≡ Some d) × TakesCompletion finishes token.call reply c d

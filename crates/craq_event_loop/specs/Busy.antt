@@ -9,7 +9,7 @@ use Rattle.craq_session.specs.ConnectionStates.{ending_of}
 use Rattle.craq_session.specs.declared.connection_state.Phase.{Phase}
 use Rattle.craq_session.specs.declared.connection_state.Phase.TheVariants as phases
 use Rattle.craq_event_loop.specs.declared.connection.Connection.{Connection}
-use Rattle.craq_event_loop.specs.declared.event_loop.Members.{Members}
+use Rattle.craq_event_loop.specs.declared.event_loop.LoopConnections.{LoopConnections}
 use Rattle.craq_event_loop.specs.Starved.{IsStarved}
 
 -- a call is under way
@@ -68,16 +68,16 @@ abbrev pub MarksBehind : {S T : Type 0} → Slab (Connection S T) → Type 0
 MarksBehind {S} {T} connections = (key : ℕ) (c : Connection S T) → get connections key ≡ Some c → IsBehind c → c.busy ≡ true
 
 -- the lists of a thread name just its connections that are marked, each once, and each that is behind is marked
-pub record NoneForgotten {S T R : Type 0} (m : Members S T R) : Type 0 where
+pub record NoneForgotten {S T R : Type 0} (m : LoopConnections S T R) : Type 0 where
   pub listed : ListsMarked m.connections m.busy m.behind
   pub behind : MarksBehind m.connections
 
 -- a thread that has no connections yet
-abbrev pub HasNone : {S T R : Type 0} → Members S T R → Type 0
+abbrev pub HasNone : {S T R : Type 0} → LoopConnections S T R → Type 0
 HasNone m = (slab_len m.connections ≡ 0) × (vec_len m.busy ≡ 0) × (deque_len m.behind ≡ 0)
 
 -- the thread's lists name no connection
-abbrev pub Rests : {S T R : Type 0} → Members S T R → Type 0
+abbrev pub Rests : {S T R : Type 0} → LoopConnections S T R → Type 0
 Rests m = (m.busy.items ≡ []) × (m.behind.items ≡ [])
 
 -- of the connections under these keys just those that are behind are marked
@@ -97,7 +97,7 @@ abbrev pub NoneBehind : {S T : Type 0} → Slab (Connection S T) → Type 0
 NoneBehind {S} {T} connections = (key : ℕ) (c : Connection S T) → get connections key ≡ Some c → ¬ IsBehind c × LeavesNoFrame c
 
 -- the thread has at most two connections, and fewer than 200 turns began since one had something to do: so it looks again before it sleeps
-abbrev pub LooksAgain : {S T R : Type 0} → Members S T R → Type 0
+abbrev pub LooksAgain : {S T R : Type 0} → LoopConnections S T R → Type 0
 LooksAgain m = (slab_len m.connections ≤ 2) × (m.looks < 200)
 
 -- the most nanoseconds that a thread sleeps: a second where it looks for idle connections, and else without end

@@ -4,20 +4,20 @@ use Rattle.mio.specs.declared.event.event.Event.{Event}
 use Rattle.mio.specs.Event.{event_token}
 use Rattle.slab.specs.Slab.{SameValues, Slab, get}
 use Rattle.craq_event_loop.specs.declared.connection.Connection.{Connection}
-use Rattle.craq_event_loop.specs.declared.event_loop.Members.{Members}
+use Rattle.craq_event_loop.specs.declared.event_loop.LoopConnections.{LoopConnections}
 use Rattle.craq_event_loop.specs.Belonging.{CameAs, IsNew, OthersStay, StaysVacant}
 use Rattle.craq_event_loop.specs.Busy.{IsIdle}
 use Rattle.craq_event_loop.specs.Readiness.{noticed}
 
 -- nothing of the thread's connections and lists changes but the room that there is
-pub record ChangesRoom {S T R : Type 0} (old new : Members S T R) : Type 0 where
+pub record ChangesRoom {S T R : Type 0} (old new : LoopConnections S T R) : Type 0 where
   pub connections : SameValues old.connections new.connections
   pub busy : new.busy.items ≡ old.busy.items
   pub behind : new.behind.items ≡ old.behind.items
 
 -- the connection that came is under a key that was vacant. It is new except for its mark, its key is behind the others in the busy
 -- list, and no other connection changes
-pub record TakesIn {S T R : Type 0} (stream : S) (session : T) (slot receipts : ℕ) (old new : Members S T R) : Type 0 where
+pub record TakesIn {S T R : Type 0} (stream : S) (session : T) (slot receipts : ℕ) (old new : LoopConnections S T R) : Type 0 where
   pub key : ℕ
   pub connection : Connection S T
   pub was_vacant : get old.connections key ≡ None

@@ -5,7 +5,7 @@ use Rattle.craq_session.specs.Asking.{Calling}
 use Rattle.craq_session.specs.Turns.{Refusing}
 use Rattle.craq_session.specs.declared.connection_state.Phase.TheVariants as phases
 use Rattle.craq_session.specs.declared.call_request.CallRequest.{CallRequest}
-use Rattle.craq_completions.specs.declared.token.Token.{Token}
+use Rattle.craq_completions.specs.declared.token.CallToken.{CallToken}
 use Rattle.craq_event_loop.specs.declared.connection.Connection.{Connection}
 use Rattle.craq_event_loop.specs.Advancing.{TakeRounds}
 use Rattle.craq_event_loop.specs.Belonging.{KeepsSlot, OneByOne, Reads, Writes}
@@ -52,7 +52,7 @@ WritesAt {S} {T} remaining contents is_over is_dry is_full old new key =
     (c : Connection S T) → get old key ≡ Some c → (d : Connection S T) × HasWritten remaining contents is_over is_dry is_full c d × StaysUnlessDone d (get new key)
 
 -- the connections under these keys are served: all read, then all have their rounds, then all write
-abbrev pub Serves : {S T : Type 0} → (S → Option (List ℕ)) → (S → Option (List ℕ)) → (S → Type 0) → (S → Type 0) → (S → Type 0) → (List ℕ → Type 0) → Refusing → (Token → Calling T) → List ℕ → Slab (Connection S T) → Slab (Connection S T) → Type 0
+abbrev pub Serves : {S T : Type 0} → (S → Option (List ℕ)) → (S → Option (List ℕ)) → (S → Type 0) → (S → Type 0) → (S → Type 0) → (List ℕ → Type 0) → Refusing → (CallToken → Calling T) → List ℕ → Slab (Connection S T) → Slab (Connection S T) → Type 0
 Serves {S} {T} remaining contents is_over is_dry is_full tells refuses submits keys old new =
     (read stepped : Slab (Connection S T)) × OneByOne (ReadsAt remaining contents is_over is_dry is_full) keys old read
     × TakeRounds tells refuses submits keys read stepped × OneByOne (WritesAt remaining contents is_over is_dry is_full) keys stepped new

@@ -11,7 +11,7 @@ use craq_session::{AsyncBackend, ConnectionState};
 
 /// A connection that came to an event loop.
 #[derive(Drop)]
-pub struct Arrival<T> {
+pub struct NewConnection<T> {
     pub stream: ClientStream,
     /// The session in which its calls are made.
     pub session: T,
@@ -40,7 +40,7 @@ pub trait LoopBackend: AsyncBackend {
     fn run_queued(&self);
 
     /// Returns the next connection that came to this event loop. Its session is new.
-    fn arrival(&self) -> Option<Arrival<Self::Session>>
+    fn arrival(&self) -> Option<NewConnection<Self::Session>>
         ensures { IfSome result (λ a. is_new a.session) };
 
     /// Returns whether no more connections will come.

@@ -5,10 +5,10 @@ ghost use Rattle.craq_session.specs.declared.connection_state.Phase.TheVariants.
 ghost use Rattle.craq_session.specs.declared.call_request.CallRequest.{CallRequest};
 ghost use Rattle.craq_event_loop.specs.Starved.{IsStarved};
 
-use crate::backend::{Arrival, LoopBackend};
+use crate::backend::{LoopBackend, NewConnection};
 use crate::socket::{Moved, Socket};
 use crate::traffic::ClientStream;
-use craq_completions::{Outcome, Token};
+use craq_completions::{CallToken, Outcome};
 use craq_session::{
     AsyncBackend, BlockingBackend, ConnectionState, Load, ReceiptPolicy, Stepped, UnsentCall,
 };
@@ -131,13 +131,18 @@ impl<T: Drop> Connection<ClientStream, T> {
     /// Makes the state of a connection that came at the second `now`, with the policy for its
     /// receipts. Nothing came on it, nothing is unsent, none of its calls was asked, and its socket
     /// is taken for ready.
-    pub(crate) fn new(alloc: Global, arrival: Arrival<T>, policy: ReceiptPolicy, now: u64) -> Self
+    pub(crate) fn new(
+        alloc: Global,
+        arrival: NewConnection<T>,
+        policy: ReceiptPolicy,
+        now: u64,
+    ) -> Self
         ensures is_new { IsNew result }
         ensures arrival { CameAs arrival.stream arrival.session arrival.slot arrival.receipts result }
         ensures policy { result.state.calls.policy ≡ policy }
         ensures now { result.heard ≡ now }
     {
-        let Arrival {
+        let NewConnection {
             stream,
             session,
             slot,
@@ -486,7 +491,7 @@ impl<S: Socket, T> Connection<S, T> {
         ensures readiness { self.new.readiness ≡ self.old.readiness }
     {
         self.calls = self.calls.wrapping_add(1);
-        let token = Token {
+        let token = CallToken {
             connection: key,
             call: self.calls,
         };

@@ -15,7 +15,7 @@ ghost use Rattle.craq_event_loop.specs.Reaching.{AreReachable, StayReachable};
 ghost use Rattle.craq_event_loop.specs.Rounds.{MoveUp, left_after};
 ghost use Rattle.craq_event_loop.specs.Serving.{ReadsAt, Serves, WritesAt};
 
-use crate::backend::{Arrival, LoopBackend};
+use crate::backend::{LoopBackend, NewConnection};
 use crate::connection::{Connection, MOST_STEPS, Share, register};
 use crate::socket::Socket;
 use crate::traffic::ClientStream;
@@ -188,7 +188,7 @@ impl LoopSettings {
 
 /// The connections of an event loop.
 #[derive(Drop)]
-struct Members<S, T, P: Drop> {
+struct LoopConnections<S, T, P: Drop> {
     alloc: Global,
     connections: Slab<Connection<S, T>>,
     /// The connections with news, each once. A round serves all of them.
@@ -210,15 +210,16 @@ struct Members<S, T, P: Drop> {
     looks: u32,
 }
 
-impl<S: Socket + Drop, T: Drop, P: Drop> Members<S, T, P> {
-    /// Makes an event loop without connections, with this buffer for reads. Takes no memory.
+impl<S: Socket + Drop, T: Drop, P: Drop> LoopConnections<S, T, P> {
+    /// Makes the list of an event loop, without connections, with this buffer for reads. Takes no
+    /// memory.
     fn new(alloc: Global, chunk: Vec<u8>, settings: &LoopSettings) -> Self
         ensures kept { NoneForgotten result }
         ensures none { HasNone result }
         ensures policy { result.policy ≡ settings.now.receipts }
         ensures idle { result.idle ≡ settings.now.idle }
     {
-        Members {
+        LoopConnections {
             alloc,
             connections: Slab::new(alloc),
             busy: Vec::new(alloc),
@@ -504,10 +505,10 @@ impl<S: Socket + Drop, T: Drop, P: Drop> Members<S, T, P> {
     }
 }
 
-impl<T: Drop, P: Drop> Members<ClientStream, T, P> {
+impl<T: Drop, P: Drop> LoopConnections<ClientStream, T, P> {
     /// Takes a connection in, with room for its key in both lists. It is busy, to be read. Fails
     /// when out of memory, or where the system refuses it; then nothing changes but room.
-    fn take_in(&mut self, registry: &Registry, arrival: Arrival<T>) -> Result<(), AllocError>
+    fn take_in(&mut self, registry: &Registry, arrival: NewConnection<T>) -> Result<(), AllocError>
         ensures kept { NoneForgotten self.old → NoneForgotten self.new }
         ensures taken { OnOk result (NoneForgotten self.old → TakesIn arrival.stream arrival.session arrival.slot arrival.receipts self.old self.new) }
         ensures refused { OnErr result (ChangesRoom self.old self.new) }
@@ -666,7 +667,7 @@ impl EventLoop {
             chunk,
             settings,
         } = self;
-        let mut members = Members::<ClientStream, H::Session, H::Reply>::new(
+        let mut members = LoopConnections::<ClientStream, H::Session, H::Reply>::new(
             alloc, chunk, &settings,
         );
         let shares = settings.shares();

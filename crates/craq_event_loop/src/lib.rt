@@ -11,7 +11,7 @@ mod own_thread;
 mod socket;
 mod traffic;
 
-pub use backend::{Arrival, LoopBackend};
+pub use backend::{LoopBackend, NewConnection};
 pub use event_loop::{EventLoop, LoopSettings};
 pub use laws::each_call_has_its_number;
 pub use own_thread::serve_one;

@@ -5,7 +5,7 @@ ghost use Rattle.craq_session.specs.Asking.{called_by};
 ghost use Rattle.craq_event_loop.specs.Busy.{IsBehind, IsDone, is_waiting};
 ghost use Rattle.craq_event_loop.specs.Reaching.{IsReachable, ReachesOn};
 
-use crate::backend::Arrival;
+use crate::backend::NewConnection;
 use crate::connection::{Connection, MOST_STEPS, Share};
 use crate::socket::Socket;
 use craq_session::{BlockingBackend, ConnectionState, Load, ReceiptPolicy};
@@ -106,7 +106,7 @@ pub fn serve_one<R: Wait, B: BlockingBackend>(
     rt: &R,
     alloc: Global,
     backend: &B,
-    arrival: Arrival<B::Session>,
+    arrival: NewConnection<B::Session>,
     policy: ReceiptPolicy,
 ) -> ConnectionState<B::Session>
     ensures { IsReachable (λ session. session ≡ arrival.session) (B.tells backend.now) (B.refuses backend.now) (called_by (B.submits backend.now) (B.finishes backend.now)) (B.finishes backend.now) result }

@@ -6,8 +6,8 @@ use Rattle.craq_names.specs.declared.refusal.Refusal.TheVariants as refusals
 use Rattle.craq_frames.specs.declared.ask.ClientMessage.{ClientMessage}
 use Rattle.craq_frames.specs.Frame.{frame, payload_limit}
 use Rattle.craq_front.specs.declared.protocol_codec.Asking.{Asking}
-use Rattle.craq_front.specs.declared.protocol_codec.Step.{Step}
-use Rattle.craq_front.specs.declared.protocol_codec.Step.TheVariants.{Ask, Refused}
+use Rattle.craq_front.specs.declared.protocol_codec.CodecEvent.{CodecEvent}
+use Rattle.craq_front.specs.declared.protocol_codec.CodecEvent.TheVariants.{Ask, Refused}
 use Rattle.craq_front.specs.Serving.{Turn, Replies, nothing, Begins, idle, begun, Next}
 use Rattle.craq_front.specs.Steps.{IsFirst, Advances}
 use Rattle.craq_front.proofs.Lengths.{behind_frame}
@@ -19,7 +19,7 @@ pub first_asked : (asking : Option Asking) (m : ClientMessage) (payload : List �
 first_asked asking m payload few first rest = (payload, refl, few, refl, first)
 
 -- the outcome of a payload holds of the bytes in front of which its frame lay
-pub taken_off : (input left unsent payload rest : List ℕ) (asking : Option Asking) (r : Result Step Refusal) → input ≡ frame payload ++ rest → left ≡ drop (length payload + 4) input
+pub taken_off : (input left unsent payload rest : List ℕ) (asking : Option Asking) (r : Result CodecEvent Refusal) → input ≡ frame payload ++ rest → left ≡ drop (length payload + 4) input
     → ((rest : List ℕ) → Advances (frame payload ++ rest) rest unsent asking r) → Advances input left unsent asking r
 taken_off input left unsent payload rest asking r e l h =
     subst (λ (x : List ℕ). Advances x left unsent asking r) (sym e)

@@ -5,7 +5,7 @@ use Rattle.craq_frames.specs.declared.ask.ClientMessage.{ClientMessage}
 use Rattle.craq_frames.specs.declared.answer.ClientReply.{ClientReply}
 use Rattle.craq_frames.specs.Frame.{frame, payload_limit}
 use Rattle.craq_front.specs.declared.protocol_codec.Asking.{Asking}
-use Rattle.craq_front.specs.declared.protocol_codec.Step.TheVariants.{Ask, Refused}
+use Rattle.craq_front.specs.declared.protocol_codec.CodecEvent.TheVariants.{Ask, Refused}
 use Rattle.craq_front.specs.Serving.{Served}
 use Rattle.craq_front.specs.Steps.{Advances, Follows}
 use Rattle.craq_front.specs.Talk.{Exchanges, next_turn, UnderWay, Stands, between, within}

@@ -15,8 +15,8 @@ use Rattle.craq_front.specs.declared.several.Replied.{Replied}
 use Rattle.craq_front.specs.declared.several.Replied.TheVariants as after
 use Rattle.craq_front.specs.declared.protocol_codec.Asking.{Asking}
 use Rattle.craq_front.specs.declared.protocol_codec.Asking.TheVariants.{One, Many}
-use Rattle.craq_front.specs.declared.protocol_codec.Step.{Step}
-use Rattle.craq_front.specs.declared.protocol_codec.Step.TheVariants.{Ask, Refused, Nothing}
+use Rattle.craq_front.specs.declared.protocol_codec.CodecEvent.{CodecEvent}
+use Rattle.craq_front.specs.declared.protocol_codec.CodecEvent.TheVariants.{Ask, Refused, Nothing}
 use Rattle.craq_front.specs.Door.{IsAllowed}
 use Rattle.craq_front.specs.Serving.{messages, refused, RefusesLength}
 
@@ -45,7 +45,7 @@ pub record IsFirst (asking : Option Asking) (m : ClientMessage) (payload : List 
   pub none : replied asking ≡ []
 
 -- the next step: `rest` is left of the bytes `input`, and the bytes `unsent` are to be written
-abbrev pub Advances : List ℕ → List ℕ → List ℕ → Option Asking → Result Step Refusal → Type 0
+abbrev pub Advances : List ℕ → List ℕ → List ℕ → Option Asking → Result CodecEvent Refusal → Type 0
 -- the first message of the payload in front is asked
 Advances input rest unsent asking (Ok (Ask m)) =
     (payload : List ℕ) × (input ≡ frame payload ++ rest) × (length payload ≤ payload_limit) × (unsent ≡ []) × IsFirst asking m payload

@@ -5,7 +5,7 @@ ghost use Rattle.craq_frames.specs.declared.answer.ClientReply.{ClientReply};
 ghost use Rattle.craq_frames.specs.Payload.{AnswerFits, IsAnswer, answer_encoding};
 ghost use Rattle.craq_frames.specs.declared.ask.ClientMessage.{ClientMessage};
 ghost use Rattle.craq_front.specs.declared.protocol_codec.Asking.{Asking};
-ghost use Rattle.craq_front.specs.declared.protocol_codec.Step.TheVariants.{Ask, Refused};
+ghost use Rattle.craq_front.specs.declared.protocol_codec.CodecEvent.TheVariants.{Ask, Refused};
 ghost use Rattle.craq_front.specs.Door.{IsAllowed, reply_limit};
 ghost use Rattle.craq_front.specs.Steps.{Advances, Follows};
 ghost use Rattle.craq_front.specs.Talk.{Exchanges, Stands};

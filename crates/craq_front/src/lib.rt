@@ -16,6 +16,6 @@ mod stream;
 pub use door::{Door, is_allowed};
 pub use exchanging::exchange;
 pub use laws::{allowed_replies_are_short, codecs_answer};
-pub use protocol_codec::{ProtocolCodec, Step};
+pub use protocol_codec::{CodecEvent, ProtocolCodec};
 pub use serving::serve;
 pub use stream::{Counted, Failed, Sink, Source, Stream};

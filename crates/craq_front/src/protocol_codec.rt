@@ -4,7 +4,7 @@
 ghost use Rattle.std.specs.Prelude.{◌≡◌, ◌≤◌, ◌↔◌, ℕ, List, None, Some, Ok, [], ◌++◌, drop, length, IsTrue, IfOk, IfSome, OnErr};
 ghost use Rattle.craq_frames.specs.Frame.{frame, payload_limit};
 ghost use Rattle.craq_frames.specs.Versions.{IsPayload, EncodesPayload};
-ghost use Rattle.craq_front.specs.declared.protocol_codec.Step.TheVariants.{Ask};
+ghost use Rattle.craq_front.specs.declared.protocol_codec.CodecEvent.TheVariants.{Ask};
 ghost use Rattle.craq_front.specs.Door.{IsAllowed};
 ghost use Rattle.craq_front.specs.Steps.{Advances, Follows, IsFirst, Receives};
 
@@ -33,7 +33,7 @@ pub(crate) enum Asking {
 
 /// The next event of a connection.
 #[derive(Debug, Drop)]
-pub enum Step {
+pub enum CodecEvent {
     /// This request is to be asked, and its reply to be given back.
     Ask(ClientMessage),
     /// A payload that encodes nothing was answered `BadFrame`.
@@ -73,7 +73,7 @@ fn open(
     output: &mut BytesMut,
     asking: &mut Option<Asking>,
     payload: &[u8],
-) -> Result<Step, Refusal>
+) -> Result<CodecEvent, Refusal>
     requires few { length payload.now ≤ payload_limit }
     requires idle { asking.old ≡ None }
     ensures { (unsent : List ℕ) × (output.new.items ≡ output.old.items ++ unsent)
@@ -83,11 +83,11 @@ fn open(
         Ok(decoded) => {
             let (message, first) = first_of(alloc, decoded);
             *asking = Some(first);
-            Ok(Step::Ask(message))
+            Ok(CodecEvent::Ask(message))
         }
         Err(Refusal::BadFrame) => {
             refuse(output, Refusal::BadFrame)?;
-            Ok(Step::Refused)
+            Ok(CodecEvent::Refused)
         }
         Err(_) => Err(Refusal::Memory),
     }
@@ -188,7 +188,7 @@ impl ProtocolCodec {
     /// - `FrameTooLong` where a length above 1,048,576 stands in front: the refusal's frame is
     ///   unsent, and the connection is over once it is written.
     /// - `Memory` where a growth was refused: nothing was appended, and the connection is over.
-    pub fn next(&mut self, alloc: Global) -> Result<Step, Refusal>
+    pub fn next(&mut self, alloc: Global) -> Result<CodecEvent, Refusal>
         requires { self.old.asking ≡ None }
         ensures { (unsent : List ℕ) × (self.new.buffers.output.items ≡ self.old.buffers.output.items ++ unsent)
             × Advances self.old.buffers.input.items self.new.buffers.input.items unsent self.new.asking result }
@@ -201,7 +201,7 @@ impl ProtocolCodec {
                 input.advance(size);
                 step
             }
-            Ok(None) => Ok(Step::Nothing),
+            Ok(None) => Ok(CodecEvent::Nothing),
             Err(_) => {
                 refuse(output, Refusal::FrameTooLong)?;
                 Err(Refusal::FrameTooLong)

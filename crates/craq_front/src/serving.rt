@@ -5,7 +5,7 @@ ghost use Rattle.craq_frames.specs.Frame.{frame};
 ghost use Rattle.craq_front.specs.Serving.{Replies, Begins, StreamFault, read_faults, write_faults, Conversation, Next, Batch};
 ghost use Rattle.craq_front.specs.Steps.{IsFirst};
 
-use crate::{Door, ProtocolCodec, Sink, Source, Step};
+use crate::{CodecEvent, Door, ProtocolCodec, Sink, Source};
 use craq_frames::ClientMessage;
 use craq_names::Refusal;
 use std::alloc::Global;
@@ -50,15 +50,15 @@ fn answer_next<D: Door>(
     ensures idle { OnOk result (codec.new.asking ≡ None) }
 {
     match codec.next(alloc)? {
-        Step::Ask(message) => {
+        CodecEvent::Ask(message) => {
             answer_payload(codec, door, message)?;
             Ok(true)
         }
-        Step::Refused => {
+        CodecEvent::Refused => {
             door.unasked(&Refusal::BadFrame);
             Ok(true)
         }
-        Step::Nothing => Ok(false),
+        CodecEvent::Nothing => Ok(false),
     }
 }
 

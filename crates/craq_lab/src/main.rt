@@ -98,7 +98,7 @@ where
 
 /// The use to make of a script.
 #[derive(Clone, Copy)]
-enum Way<'a> {
+enum ScriptUse<'a> {
     Play,
     Draw(&'a [u32]),
     Stops(NodeId),
@@ -111,26 +111,28 @@ fn played<C: Core, R: AllocGlobal + Wait>(
     rt: &R,
     nodes: u32,
     script: &[u8],
-    way: &Way<'_>,
+    way: &ScriptUse<'_>,
 ) -> Result<String, PlayFault>
     requires { (1 ≤ nodes) × (nodes ≤ 8) }
 {
     let alloc = rt.alloc();
     match way {
-        Way::Play => play::<C, R>(rt, alloc, nodes, script),
-        Way::Draw(choices) => {
+        ScriptUse::Play => play::<C, R>(rt, alloc, nodes, script),
+        ScriptUse::Draw(choices) => {
             draw::<C>(alloc, nodes, script, choices).map_err(PlayFault::Refused)
         }
-        Way::Stops(node) => stops::<C>(alloc, nodes, script, *node).map_err(PlayFault::Refused),
-        Way::Picture => picture::<C>(alloc, nodes, script).map_err(PlayFault::Refused),
-        Way::Check(explanation) => {
+        ScriptUse::Stops(node) => stops::<C>(alloc, nodes, script, *node).map_err(
+            PlayFault::Refused,
+        ),
+        ScriptUse::Picture => picture::<C>(alloc, nodes, script).map_err(PlayFault::Refused),
+        ScriptUse::Check(explanation) => {
             verdict::<C>(alloc, nodes, script, explanation).map_err(PlayFault::Refused)
         }
     }
 }
 
 /// Plays the script of a file and prints its output. Returns the exit status.
-fn play_file<R>(rt: &R, nodes: Nodes, file: Option<&str>, way: &Way<'_>) -> io::Result<u8>
+fn play_file<R>(rt: &R, nodes: Nodes, file: Option<&str>, way: &ScriptUse<'_>) -> io::Result<u8>
 where
     R: AllocGlobal + Files + Input + Print + Eprint + Wait,
 {
@@ -153,7 +155,7 @@ where
     R: AllocGlobal + Files + Input + Print + Eprint + Wait,
 {
     match numbers::choices_of(rt.alloc(), choices)? {
-        Some(choices) => play_file(rt, nodes, Some(file), &Way::Draw(choices.as_slice())),
+        Some(choices) => play_file(rt, nodes, Some(file), &ScriptUse::Draw(choices.as_slice())),
         None => {
             eprintln!(rt; "choices refused")?;
             Ok(BAD_INPUT)
@@ -167,7 +169,7 @@ where
     R: AllocGlobal + Files + Input + Print + Eprint + Wait,
 {
     match numbers::number_in_word(node.as_bytes()) {
-        Some(id) => play_file(rt, nodes, Some(file), &Way::Stops(NodeId::new(id))),
+        Some(id) => play_file(rt, nodes, Some(file), &ScriptUse::Stops(NodeId::new(id))),
         None => {
             eprintln!(rt; "error: invalid value '{node}' for '<NODE>': a leading zero or sign")?;
             Ok(BAD_INPUT)
@@ -198,7 +200,7 @@ where
         Err(error) => return report_unread(rt, Some(claimed), error.kind()),
     };
     match explanation_of(rt.alloc(), bytes.as_slice()) {
-        Ok(explanation) => play_file(rt, nodes, Some(file), &Way::Check(&explanation)),
+        Ok(explanation) => play_file(rt, nodes, Some(file), &ScriptUse::Check(&explanation)),
         Err(misread) => report_misread(rt, claimed, &misread),
     }
 }
@@ -209,7 +211,7 @@ where
     R: AllocGlobal + Files + Input + Print + Eprint + Wait,
 {
     match wanted_by(rt.alloc(), words) {
-        Ok(Wanted::Play { nodes, file }) => play_file(rt, nodes, file, &Way::Play),
+        Ok(Wanted::Play { nodes, file }) => play_file(rt, nodes, file, &ScriptUse::Play),
         Ok(
             Wanted::Draw {
                 nodes,
@@ -218,7 +220,12 @@ where
             },
         ) => draw_file(rt, nodes, file, choices),
         Ok(Wanted::Stops { nodes, file, node }) => stops_file(rt, nodes, file, node),
-        Ok(Wanted::Picture { nodes, file }) => play_file(rt, nodes, Some(file), &Way::Picture),
+        Ok(Wanted::Picture { nodes, file }) => play_file(
+            rt,
+            nodes,
+            Some(file),
+            &ScriptUse::Picture,
+        ),
         Ok(
             Wanted::Check {
                 nodes,

@@ -5,7 +5,7 @@ use Rattle.std.specs.List.{flat_map}
 use Rattle.craq_metrics.specs.declared.figures.ServerFigures.{ServerFigures}
 use Rattle.craq_metrics.specs.declared.figures.ChainFigures.{ChainFigures}
 use Rattle.craq_metrics.specs.declared.figures.NodeFigures.{NodeFigures}
-use Rattle.craq_metrics.specs.declared.metrics.Kind.TheVariants.{Counter, Gauge}
+use Rattle.craq_metrics.specs.declared.metrics.MetricKind.TheVariants.{Counter, Gauge}
 use Rattle.craq_metrics.specs.declared.metrics.ServerMetric.{ServerMetric}
 use Rattle.craq_metrics.specs.declared.metrics.ServerMetric.TheVariants as servers
 use Rattle.craq_metrics.specs.declared.metrics.CountMetric.TheVariants as counts

@@ -2,8 +2,8 @@
 use Rattle.std.specs.Prelude.{⊤, ℕ, List, ◌++◌, length, codes, if◌then◌else◌}
 use Rattle.std.specs.Fmt.{decimal}
 use Rattle.craq_names.specs.Maps.{same_bytes}
-use Rattle.craq_metrics.specs.declared.http.Asked.{Asked}
-use Rattle.craq_metrics.specs.declared.http.Asked.TheVariants.{Page, NotFound, NotAllowed, Bad, Unfinished}
+use Rattle.craq_metrics.specs.declared.http.HttpRequest.{HttpRequest}
+use Rattle.craq_metrics.specs.declared.http.HttpRequest.TheVariants.{Page, NotFound, NotAllowed, Bad, Unfinished}
 use Rattle.craq_metrics.specs.declared.http.Page.TheVariants as pages
 use Rattle.craq_metrics.specs.declared.http.HttpStatus.{HttpStatus}
 use Rattle.craq_metrics.specs.declared.http.HttpStatus.TheVariants as statuses
@@ -11,7 +11,7 @@ use Rattle.craq_metrics.specs.declared.http.MediaType.{MediaType}
 use Rattle.craq_metrics.specs.declared.http.MediaType.TheVariants as media
 
 -- the meaning of a whole request
-abbrev pub IsWhole : Asked → Type 0
+abbrev pub IsWhole : HttpRequest → Type 0
 IsWhole (Page page) = ⊤
 IsWhole NotFound = ⊤
 IsWhole NotAllowed = ⊤
@@ -19,7 +19,7 @@ IsWhole Bad = ⊥
 IsWhole Unfinished = ⊥
 
 -- the page of a target
-unfoldable pub page_of : List ℕ → Asked
+unfoldable pub page_of : List ℕ → HttpRequest
 page_of target =
     if same_bytes target (codes "/metrics") then Page pages.Metrics
     else (if same_bytes target (codes "/healthz") then Page pages.Health
@@ -27,7 +27,7 @@ page_of target =
     else NotFound))
 
 -- a request by this method for this target
-unfoldable pub meaning : List ℕ → List ℕ → Asked
+unfoldable pub meaning : List ℕ → List ℕ → HttpRequest
 meaning method target = if same_bytes method (codes "GET") then page_of target else NotAllowed
 
 abbrev pub status_line : HttpStatus → List ℕ

@@ -3,8 +3,8 @@ use Rattle.std.specs.Prelude.{ℕ, List, Bool, true, false, length, codes}
 use Rattle.craq_metrics.specs.declared.figures.ServerFigures.{ServerFigures}
 use Rattle.craq_metrics.specs.declared.figures.ChainFigures.{ChainFigures}
 use Rattle.craq_metrics.specs.declared.figures.NodeFigures.{NodeFigures}
-use Rattle.craq_metrics.specs.declared.metrics.Kind.{Kind}
-use Rattle.craq_metrics.specs.declared.metrics.Kind.TheVariants as kinds
+use Rattle.craq_metrics.specs.declared.metrics.MetricKind.{MetricKind}
+use Rattle.craq_metrics.specs.declared.metrics.MetricKind.TheVariants as kinds
 use Rattle.craq_metrics.specs.declared.metrics.ServerMetric.{ServerMetric}
 use Rattle.craq_metrics.specs.declared.metrics.ServerMetric.TheVariants as servers
 use Rattle.craq_metrics.specs.declared.metrics.CountMetric.{CountMetric}
@@ -14,7 +14,7 @@ use Rattle.craq_metrics.specs.declared.metrics.ChainMetric.TheVariants as chains
 use Rattle.craq_metrics.specs.declared.metrics.NodeMetric.{NodeMetric}
 use Rattle.craq_metrics.specs.declared.metrics.NodeMetric.TheVariants as nodes
 
-abbrev pub kind_name : Kind → List ℕ
+abbrev pub kind_name : MetricKind → List ℕ
 kind_name kinds.Counter = codes "counter"
 kind_name kinds.Gauge = codes "gauge"
 
@@ -36,7 +36,7 @@ server_help servers.TurnedAway = codes "Connections closed because no place was 
 server_help servers.ReadBytes = codes "Bytes read from clients."
 server_help servers.WrittenBytes = codes "Bytes written to clients."
 
-abbrev pub server_kind : ServerMetric → Kind
+abbrev pub server_kind : ServerMetric → MetricKind
 server_kind servers.Uptime = kinds.Gauge
 server_kind servers.Open = kinds.Gauge
 server_kind servers.Accepted = kinds.Counter
@@ -96,7 +96,7 @@ node_help nodes.Objects = codes "Objects that the node holds."
 node_help nodes.Bytes = codes "Bytes of the keys and values that the node holds."
 node_help nodes.Lost = codes "Messages at the node that were lost because memory ended."
 
-abbrev pub node_kind : NodeMetric → Kind
+abbrev pub node_kind : NodeMetric → MetricKind
 node_kind nodes.Ready = kinds.Gauge
 node_kind nodes.Running = kinds.Gauge
 node_kind nodes.Length = kinds.Gauge

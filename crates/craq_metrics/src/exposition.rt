@@ -6,7 +6,7 @@ ghost use Rattle.craq_metrics.specs.Exposition.{heading_text, sample_text, famil
 ghost use Rattle.craq_metrics.specs.Families.{server_family, server_families, requests_family, refusals_family, numbered_samples, chain_family, chain_families, chain_sample, node_family, node_families, node_count_families, node_samples, node_state_families, families_of};
 ghost use Rattle.craq_metrics.specs.Metrics.{chain_name, node_name};
 
-use crate::metrics::{ChainMetric, CountMetric, Kind, NodeMetric, ServerMetric};
+use crate::metrics::{ChainMetric, CountMetric, MetricKind, NodeMetric, ServerMetric};
 use crate::{ChainFigures, NodeFigures, ServerFigures};
 use std::alloc::{AllocError, Global};
 
@@ -98,7 +98,7 @@ fn push_requests(text: &mut String, server: &ServerFigures) -> Result<(), AllocE
 {
     let metric = CountMetric::Requests;
     let name = metric.name();
-    push_heading(text, name, metric.help(), Kind::Counter.name())?;
+    push_heading(text, name, metric.help(), MetricKind::Counter.name())?;
     push_labelled(text, name, "kind", "update", server.updates)?;
     push_labelled(text, name, "kind", "read", server.reads)?;
     push_labelled(text, name, "kind", "status", server.statuses)
@@ -121,7 +121,7 @@ fn push_refusals(text: &mut String, server: &ServerFigures) -> Result<(), AllocE
 {
     let metric = CountMetric::Refusals;
     let name = metric.name();
-    push_heading(text, name, metric.help(), Kind::Counter.name())?;
+    push_heading(text, name, metric.help(), MetricKind::Counter.name())?;
     push_counts(text, name, server.refused.as_slice())
 }
 
@@ -149,7 +149,7 @@ fn push_chain(
 ) -> Result<(), AllocError>
     ensures { OnOk result (string_bytes text.new ≡ string_bytes text.old ++ family_text (chain_family chains.now metric)) }
 {
-    push_heading(text, metric.name(), metric.help(), Kind::Gauge.name())?;
+    push_heading(text, metric.name(), metric.help(), MetricKind::Gauge.name())?;
     push_chain_samples(text, chains, metric)
 }
 

@@ -25,7 +25,7 @@ pub enum Page {
 
 /// The meaning of the bytes that came on a connection.
 #[derive(Clone, Copy, Debug, PartialEq, Eq)]
-pub enum Asked {
+pub enum HttpRequest {
     /// A request for a page.
     Page(Page),
     /// A request for another target.
@@ -59,48 +59,48 @@ pub enum MediaType {
 
 /// Returns what a target means.
 #[tactic(auto, unfolding(crate::specs::Http::page_of))]
-fn page_of(target: &[u8]) -> Asked
+fn page_of(target: &[u8]) -> HttpRequest
     ensures page { result ≡ page_of target.now }
     ensures whole { IsWhole result }
 {
     if target == b"/metrics".as_slice() {
-        return Asked::Page(Page::Metrics);
+        return HttpRequest::Page(Page::Metrics);
     }
     if target == b"/healthz".as_slice() {
-        return Asked::Page(Page::Health);
+        return HttpRequest::Page(Page::Health);
     }
     if target == b"/status.json".as_slice() {
-        return Asked::Page(Page::Status);
+        return HttpRequest::Page(Page::Status);
     }
-    Asked::NotFound
+    HttpRequest::NotFound
 }
 
 /// Returns what a request by this method for this target means.
 #[tactic(auto, unfolding(crate::specs::Http::meaning))]
-fn meaning_of(method: &[u8], target: &[u8]) -> Asked
+fn meaning_of(method: &[u8], target: &[u8]) -> HttpRequest
     ensures meaning { result ≡ meaning method.now target.now }
     ensures whole { IsWhole result }
 {
     if method == b"GET".as_slice() {
         page_of(target)
     } else {
-        Asked::NotAllowed
+        HttpRequest::NotAllowed
     }
 }
 
 /// Returns what the bytes mean that came on a connection: the head of a request by the grammar of
 /// RFC 9112, of which the method and the target are read. What follows the head is not read.
-pub fn asked_of(bytes: &[u8]) -> Asked
+pub fn request_in(bytes: &[u8]) -> HttpRequest
     ensures request { (head : RequestHead) (rest : List ℕ) → ReadsRequest bytes.now head rest → length head.fields ≤ MOST_FIELDS → result ≡ meaning head.method head.target }
-    ensures bad { result ≡ Asked.Bad → RequestOverflows MOST_FIELDS bytes.now }
-    ensures nothing { result ≡ Asked.Unfinished → HasNoRequest bytes.now }
-    ensures unfinished { result ≡ Asked.Unfinished → MayBecomeRequest bytes.now }
+    ensures bad { result ≡ HttpRequest.Bad → RequestOverflows MOST_FIELDS bytes.now }
+    ensures nothing { result ≡ HttpRequest.Unfinished → HasNoRequest bytes.now }
+    ensures unfinished { result ≡ HttpRequest.Unfinished → MayBecomeRequest bytes.now }
 {
     let mut headers = [EMPTY_HEADER_SPAN; MOST_FIELDS];
     match parse_request(bytes, &mut headers) {
         Ok(Status::Complete(head)) => meaning_of(head.method.of(bytes), head.path.of(bytes)),
-        Ok(Status::Partial) => Asked::Unfinished,
-        Err(_) => Asked::Bad,
+        Ok(Status::Partial) => HttpRequest::Unfinished,
+        Err(_) => HttpRequest::Bad,
     }
 }
 

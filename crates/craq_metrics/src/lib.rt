@@ -12,5 +12,5 @@ mod status;
 pub use exposition::metrics_text;
 pub use figures::{ChainFigures, NodeFigures, REFUSALS, ServerFigures};
 pub use health::{first_unserved, health_text};
-pub use http::{Asked, HttpStatus, MOST_FIELDS, MediaType, Page, asked_of, response};
+pub use http::{HttpRequest, HttpStatus, MOST_FIELDS, MediaType, Page, request_in, response};
 pub use status::status_text;

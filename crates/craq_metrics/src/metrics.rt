@@ -6,21 +6,21 @@ use crate::{ChainFigures, NodeFigures, ServerFigures};
 
 /// The kind of a metric.
 #[derive(Clone, Copy, Debug, PartialEq, Eq)]
-pub(crate) enum Kind {
+pub(crate) enum MetricKind {
     /// It never falls while the server runs.
     Counter,
     /// It rises and falls.
     Gauge,
 }
 
-impl Kind {
+impl MetricKind {
     /// Returns the word for the kind.
     pub(crate) const fn name(self) -> &'static str
         ensures { result.now ≡ kind_name self }
     {
         match self {
-            Kind::Counter => "counter",
-            Kind::Gauge => "gauge",
+            MetricKind::Counter => "counter",
+            MetricKind::Gauge => "gauge",
         }
     }
 }
@@ -66,13 +66,13 @@ impl ServerMetric {
     }
 
     /// Returns its kind.
-    pub(crate) const fn kind(self) -> Kind
+    pub(crate) const fn kind(self) -> MetricKind
         ensures { result ≡ server_kind self }
     {
         match self {
-            ServerMetric::Uptime | ServerMetric::Open => Kind::Gauge,
-            ServerMetric::Accepted | ServerMetric::TurnedAway => Kind::Counter,
-            ServerMetric::ReadBytes | ServerMetric::WrittenBytes => Kind::Counter,
+            ServerMetric::Uptime | ServerMetric::Open => MetricKind::Gauge,
+            ServerMetric::Accepted | ServerMetric::TurnedAway => MetricKind::Counter,
+            ServerMetric::ReadBytes | ServerMetric::WrittenBytes => MetricKind::Counter,
         }
     }
 
@@ -230,12 +230,12 @@ impl NodeMetric {
     }
 
     /// Returns its kind.
-    pub(crate) const fn kind(self) -> Kind
+    pub(crate) const fn kind(self) -> MetricKind
         ensures { result ≡ node_kind self }
     {
         match self {
-            NodeMetric::Lost => Kind::Counter,
-            _ => Kind::Gauge,
+            NodeMetric::Lost => MetricKind::Counter,
+            _ => MetricKind::Gauge,
         }
     }
 }

@@ -9,20 +9,20 @@ use Rattle.craq_runs.specs.declared.run.Move.TheVariants as moves
 use Rattle.craq_runs.specs.declared.run.Run.{Run}
 use Rattle.craq_runs.specs.declared.run.Taken.{Taken}
 use Rattle.craq_runs.specs.Seen.{node_of}
-use Rattle.craq_picture.specs.declared.drawing.Arrival.{Arrival}
+use Rattle.craq_picture.specs.declared.drawing.MessageArrival.{MessageArrival}
 use Rattle.craq_picture.specs.declared.drawing.Arrow.{Arrow}
 use Rattle.craq_picture.specs.declared.drawing.Row.{Row}
-use Rattle.craq_picture.specs.declared.drawing.Sent.{Sent}
+use Rattle.craq_picture.specs.declared.drawing.SentMessage.{SentMessage}
 
 -- the messages among the outputs of a row's move, after `earlier` messages and `place` outputs
-abbrev pub sends_in : ℕ → ℕ → ℕ → List Out → List Sent
+abbrev pub sends_in : ℕ → ℕ → ℕ → List Out → List SentMessage
 sends_in earlier row place [] = []
 sends_in earlier row place (outs.Send to m ∷ os) =
     record { number = earlier + 1; row = row; place = place; from = m.sender; to = m.receiver } ∷ sends_in (earlier + 1) row (place + 1) os
 sends_in earlier row place (outs.Answer ticket answer ∷ os) = sends_in earlier row (place + 1) os
 
 -- the messages that moves send, the first of which is in this row, after `earlier` messages
-abbrev pub sends_from : ℕ → ℕ → List Taken → List Sent
+abbrev pub sends_from : ℕ → ℕ → List Taken → List SentMessage
 sends_from earlier row [] = []
 sends_from earlier row (t ∷ ts) =
     let here = sends_in earlier row 0 t.step.outs in here ++ sends_from (earlier + length here) (row + 1) ts
@@ -37,7 +37,7 @@ delivers number (moves.Remove node) = false
 delivers number (moves.Join node) = false
 
 -- the arrivals of the message of a number, by moves the first of which is in this row
-abbrev pub arrivals_from : ℕ → ℕ → List Taken → List Arrival
+abbrev pub arrivals_from : ℕ → ℕ → List Taken → List MessageArrival
 arrivals_from number row [] = []
 arrivals_from number row (t ∷ ts) =
     if delivers number t.chosen
@@ -45,7 +45,7 @@ arrivals_from number row (t ∷ ts) =
     else arrivals_from number (row + 1) ts
 
 -- a message with each of its arrivals
-abbrev pub arrow_of : List Taken → Sent → Arrow
+abbrev pub arrow_of : List Taken → SentMessage → Arrow
 arrow_of ts sent = record { sent = sent; arrivals = arrivals_from sent.number 1 ts }
 
 -- each message that was sent, with each of its arrivals
@@ -53,8 +53,8 @@ abbrev pub arrows_of : List Taken → List Arrow
 arrows_of ts = map (arrow_of ts) (sends_from 0 1 ts)
 
 -- the receiver of each message
-abbrev pub receivers_of : List Sent → List ℕ
-receivers_of = map (λ (sent : Sent). sent.to)
+abbrev pub receivers_of : List SentMessage → List ℕ
+receivers_of = map (λ (sent : SentMessage). sent.to)
 
 -- the node of each move, and the number of updates committed after it by the witness's lengths,
 -- from index `place` of them on

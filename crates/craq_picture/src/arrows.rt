@@ -1,9 +1,9 @@
 //! Computes the lines of the arrows, from each message's sender to each of its arrivals or into the
 //! air, and places their labels; called by `painting`.
-use crate::board::{Board, Kind, Segment, Spot, Stroke};
-use crate::layout::{Layout, Point, first_out, sent_at};
+use crate::board::{Board, MarkKind, Segment, Spot, Stroke};
+use crate::layout::{PictureLayout, Point, first_out, sent_at};
 use crate::pen::Side;
-use crate::{Arrival, Arrow, Sent};
+use crate::{Arrow, MessageArrival, SentMessage};
 use craq_model::LinkMessage;
 use craq_play::{print_message, word_of};
 use craq_runs::Taken;
@@ -62,7 +62,7 @@ fn move_at(moves: &[Taken], number: u64) -> Option<&Taken> {
 }
 
 /// Returns the point where a message starts.
-fn start_of(layout: &Layout<'_>, moves: &[Taken], sent: &Sent) -> Point {
+fn start_of(layout: &PictureLayout<'_>, moves: &[Taken], sent: &SentMessage) -> Point {
     let first = match move_at(moves, sent.row) {
         Some(taken) => first_out(&taken.chosen),
         None => 0,
@@ -88,7 +88,12 @@ fn lost_segment(start: Point, end: u64) -> Segment {
 }
 
 /// Returns the line of a message to one of its arrivals.
-fn segment_of(layout: &Layout<'_>, sent: &Sent, start: Point, arrival: &Arrival) -> Segment {
+fn segment_of(
+    layout: &PictureLayout<'_>,
+    sent: &SentMessage,
+    start: Point,
+    arrival: &MessageArrival,
+) -> Segment {
     let to = Point {
         x: toward(layout.across(sent.to), start.x, 5),
         y: layout.down(arrival.row),
@@ -108,7 +113,7 @@ fn segment_of(layout: &Layout<'_>, sent: &Sent, start: Point, arrival: &Arrival)
 /// Adds the lines of a message.
 fn add_segments(
     segments: &mut Vec<Segment>,
-    layout: &Layout<'_>,
+    layout: &PictureLayout<'_>,
     arrow: &Arrow,
     start: Point,
 ) -> Result<(), AllocError> {
@@ -124,7 +129,7 @@ fn add_segments(
 /// Returns the lines of all messages.
 pub(crate) fn segments_of(
     alloc: Global,
-    layout: &Layout<'_>,
+    layout: &PictureLayout<'_>,
     moves: &[Taken],
     arrows: &[Arrow],
 ) -> Result<Vec<Segment>, AllocError> {
@@ -154,25 +159,25 @@ fn place_start(
         far_spot(start.x, end, start.y.saturating_add(4)),
         near_spot(start.x, end, start.y.saturating_add(14)),
     ];
-    board.place(Kind::Message, words, spots)
+    board.place(MarkKind::Message, words, spots)
 }
 
 /// Places a message's number where it arrived, with the reason if it was ignored.
 fn place_end(
     alloc: Global,
     board: &mut Board,
-    layout: &Layout<'_>,
-    sent: &Sent,
-    arrival: &Arrival,
+    layout: &PictureLayout<'_>,
+    sent: &SentMessage,
+    arrival: &MessageArrival,
 ) -> Result<(), AllocError> {
     let number = sent.number;
     let mut words = String::new(alloc);
     write!(words, "m{number}")?;
-    let mut kind = Kind::Arrival;
+    let mut kind = MarkKind::Arrival;
     if let Some(why) = arrival.ignored {
         let word = word_of(why);
         write!(words, " {word}")?;
-        kind = Kind::Reason;
+        kind = MarkKind::Reason;
     }
     let x = layout.across(sent.to);
     let start = layout.across(sent.from);
@@ -190,7 +195,7 @@ fn place_end(
 pub(crate) fn place_starts(
     alloc: Global,
     board: &mut Board,
-    layout: &Layout<'_>,
+    layout: &PictureLayout<'_>,
     moves: &[Taken],
     arrows: &[Arrow],
 ) -> Result<(), AllocError> {
@@ -211,7 +216,7 @@ pub(crate) fn place_starts(
 pub(crate) fn place_ends(
     alloc: Global,
     board: &mut Board,
-    layout: &Layout<'_>,
+    layout: &PictureLayout<'_>,
     arrows: &[Arrow],
 ) -> Result<(), AllocError> {
     for arrow in arrows {

@@ -41,7 +41,7 @@ pub(crate) struct Spot {
 /// The kinds of labels: a move's request, a message at its sending, its number at its arrival, a
 /// reason, a reply.
 #[derive(Clone, Copy)]
-pub(crate) enum Kind {
+pub(crate) enum MarkKind {
     Move,
     Message,
     Arrival,
@@ -52,7 +52,7 @@ pub(crate) enum Kind {
 /// A label at its place.
 #[derive(Drop)]
 struct Label {
-    kind: Kind,
+    kind: MarkKind,
     spot: Spot,
     text: String,
 }
@@ -83,13 +83,13 @@ fn class_of_stroke(stroke: Stroke) -> &'static str {
 }
 
 /// Returns the class of a label.
-fn class_of_label(kind: Kind) -> &'static str {
+fn class_of_label(kind: MarkKind) -> &'static str {
     match kind {
-        Kind::Move => "move",
-        Kind::Message => "label",
-        Kind::Arrival => "who",
-        Kind::Reason => "why",
-        Kind::Reply => "answer",
+        MarkKind::Move => "move",
+        MarkKind::Message => "label",
+        MarkKind::Arrival => "who",
+        MarkKind::Reason => "why",
+        MarkKind::Reply => "answer",
     }
 }
 
@@ -174,7 +174,7 @@ impl Board {
     /// Adds a label at the first of these places that is free; at the first one if none is.
     pub(crate) fn place(
         &mut self,
-        kind: Kind,
+        kind: MarkKind,
         text: String,
         spots: [Spot; 4],
     ) -> Result<(), AllocError> {

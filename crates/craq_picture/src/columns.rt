@@ -1,6 +1,6 @@
 //! Draws the columns: each node's name, and its line from its join to its stop; called by
 //! `painting`.
-use crate::layout::{Layout, Point};
+use crate::layout::{PictureLayout, Point};
 use crate::pen::{Side, draw_line, draw_text};
 use craq_names::NodeId;
 use craq_runs::{Move, Taken};
@@ -13,7 +13,7 @@ const NAMES: u64 = 34;
 const START: u64 = 42;
 
 /// Returns the height where a node's line begins: at the move by which it joined, if it did.
-fn start_of(layout: &Layout<'_>, moves: &[Taken], node: NodeId) -> u64 {
+fn start_of(layout: &PictureLayout<'_>, moves: &[Taken], node: NodeId) -> u64 {
     for (index, taken) in moves.iter().enumerate() {
         if let Move::Join(id) = &taken.chosen
             && *id == node
@@ -25,7 +25,7 @@ fn start_of(layout: &Layout<'_>, moves: &[Taken], node: NodeId) -> u64 {
 }
 
 /// Returns the height where a node's line ends: at the move by which it stopped, if it did.
-fn end_of(layout: &Layout<'_>, moves: &[Taken], node: NodeId) -> u64 {
+fn end_of(layout: &PictureLayout<'_>, moves: &[Taken], node: NodeId) -> u64 {
     for (index, taken) in moves.iter().enumerate() {
         if let Move::Stop(id) = &taken.chosen
             && *id == node
@@ -52,7 +52,7 @@ fn name_of(alloc: Global, node: NodeId) -> Result<String, AllocError> {
 fn draw_column(
     alloc: Global,
     svg: &mut String,
-    layout: &Layout<'_>,
+    layout: &PictureLayout<'_>,
     moves: &[Taken],
     node: NodeId,
 ) -> Result<(), AllocError> {
@@ -74,7 +74,7 @@ fn draw_column(
 pub(crate) fn draw_columns(
     alloc: Global,
     svg: &mut String,
-    layout: &Layout<'_>,
+    layout: &PictureLayout<'_>,
     moves: &[Taken],
 ) -> Result<(), AllocError> {
     for node in layout.columns {

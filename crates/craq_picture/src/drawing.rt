@@ -13,7 +13,7 @@ use std::alloc::{AllocError, Global};
 
 /// A message that was sent.
 #[derive(Clone, Copy)]
-pub struct Sent {
+pub struct SentMessage {
     /// Its number, from 1 in the order of sending.
     pub number: u64,
     /// The number of the move that sent it, from 1.
@@ -26,7 +26,7 @@ pub struct Sent {
 
 /// An arrival of a message.
 #[derive(Clone, Copy)]
-pub struct Arrival {
+pub struct MessageArrival {
     /// The number of the move that delivered it, from 1.
     pub row: u64,
     /// The reason that it was ignored, if it was.
@@ -36,8 +36,8 @@ pub struct Arrival {
 /// A message and its arrivals: none, one or several.
 #[derive(Drop)]
 pub struct Arrow {
-    pub sent: Sent,
-    pub arrivals: Items<Arrival>,
+    pub sent: SentMessage,
+    pub arrivals: Items<MessageArrival>,
 }
 
 /// A move.
@@ -61,12 +61,12 @@ pub struct Drawing {
 }
 
 /// Adds the messages among the outputs of a row's step.
-fn add_sends(sends: &mut Vec<Sent>, row: u64, outs: &[Out]) -> Result<(), AllocError>
+fn add_sends(sends: &mut Vec<SentMessage>, row: u64, outs: &[Out]) -> Result<(), AllocError>
     ensures { OnOk result (sends.new.items ≡ sends.old.items ++ sends_in (length sends.old.items) row 0 outs.now) }
 {
     for (place, out) in outs.iter().enumerate() {
         if let Out::Send { to: _, message } = out {
-            let sent = Sent {
+            let sent = SentMessage {
                 number: sends.len() as u64 + 1,
                 row,
                 place: place as u64,
@@ -80,7 +80,7 @@ fn add_sends(sends: &mut Vec<Sent>, row: u64, outs: &[Out]) -> Result<(), AllocE
 }
 
 /// Returns the messages that the moves send, in order.
-fn sends_of(alloc: Global, moves: &[Taken]) -> Result<Vec<Sent>, AllocError>
+fn sends_of(alloc: Global, moves: &[Taken]) -> Result<Vec<SentMessage>, AllocError>
     ensures { IfOk result (λ sends. sends.items ≡ sends_from 0 1 moves.now) }
 {
     let mut sends = Vec::new(alloc);
@@ -91,7 +91,11 @@ fn sends_of(alloc: Global, moves: &[Taken]) -> Result<Vec<Sent>, AllocError>
 }
 
 /// Returns the arrivals of the message of this number.
-fn arrivals_of(alloc: Global, moves: &[Taken], number: u64) -> Result<Items<Arrival>, AllocError>
+fn arrivals_of(
+    alloc: Global,
+    moves: &[Taken],
+    number: u64,
+) -> Result<Items<MessageArrival>, AllocError>
     ensures { IfOk result (λ arrivals. arrivals ≡ arrivals_from number 1 moves.now) }
 {
     let mut arrivals = Items::new(alloc);
@@ -99,7 +103,7 @@ fn arrivals_of(alloc: Global, moves: &[Taken], number: u64) -> Result<Items<Arri
         if let Move::Deliver(delivered) = &taken.chosen
             && *delivered == number
         {
-            arrivals.push(Arrival {
+            arrivals.push(MessageArrival {
                 row: index as u64 + 1,
                 ignored: taken.step.ignored,
             })?;
@@ -109,7 +113,11 @@ fn arrivals_of(alloc: Global, moves: &[Taken], number: u64) -> Result<Items<Arri
 }
 
 /// Returns an arrow for each message that was sent.
-fn arrows_of(alloc: Global, moves: &[Taken], sends: &[Sent]) -> Result<Items<Arrow>, AllocError>
+fn arrows_of(
+    alloc: Global,
+    moves: &[Taken],
+    sends: &[SentMessage],
+) -> Result<Items<Arrow>, AllocError>
     ensures { IfOk result (λ arrows. arrows ≡ map (arrow_of moves.now) sends.now) }
 {
     let mut arrows = Items::new(alloc);
@@ -124,7 +132,7 @@ fn arrows_of(alloc: Global, moves: &[Taken], sends: &[Sent]) -> Result<Items<Arr
 }
 
 /// Returns the receiver of each message, in the order of sending.
-fn receivers_of(alloc: Global, sends: &[Sent]) -> Result<Vec<NodeId>, AllocError>
+fn receivers_of(alloc: Global, sends: &[SentMessage]) -> Result<Vec<NodeId>, AllocError>
     ensures { IfOk result (λ receivers. receivers.items ≡ receivers_of sends.now) }
 {
     sends.iter().map(|sent| sent.to).collect(alloc)

@@ -38,13 +38,13 @@ pub(crate) struct Point {
 
 /// The layout of a picture.
 #[derive(Drop)]
-pub(crate) struct Layout<'a> {
+pub(crate) struct PictureLayout<'a> {
     pub(crate) columns: &'a [NodeId],
     /// The height of each row, and at the end the height where the next one would be.
     pub(crate) tops: &'a [u64],
 }
 
-impl Layout<'_> {
+impl PictureLayout<'_> {
     /// Returns the distance of a node's column from the left.
     pub(crate) fn across(&self, node: NodeId) -> u64 {
         let index = self

@@ -14,5 +14,5 @@ mod pen;
 mod rows;
 mod style;
 
-pub use drawing::{Arrival, Arrow, Drawing, Row, Sent, drawing_of};
+pub use drawing::{Arrow, Drawing, MessageArrival, Row, SentMessage, drawing_of};
 pub use painting::picture_of;

@@ -2,7 +2,7 @@
 use crate::arrows::{place_ends, place_starts, segments_of};
 use crate::board::Board;
 use crate::columns::draw_columns;
-use crate::layout::{LINE, Layout, Point, tops_of};
+use crate::layout::{LINE, PictureLayout, Point, tops_of};
 use crate::pen::{draw_box, draw_note};
 use crate::rows::{draw_margins, draw_points, place_replies};
 use crate::style::STYLE;
@@ -19,7 +19,7 @@ static LEGEND: [&str; 4] = [
 ];
 
 /// Begins the picture: its size, its colours and its background.
-fn open_picture(svg: &mut String, layout: &Layout<'_>) -> Result<(), AllocError> {
+fn open_picture(svg: &mut String, layout: &PictureLayout<'_>) -> Result<(), AllocError> {
     let width = layout.width();
     let height = layout.bottom().saturating_add(82);
     write!(
@@ -32,7 +32,7 @@ fn open_picture(svg: &mut String, layout: &Layout<'_>) -> Result<(), AllocError>
 }
 
 /// Ends the picture with the legend.
-fn close_picture(svg: &mut String, layout: &Layout<'_>) -> Result<(), AllocError> {
+fn close_picture(svg: &mut String, layout: &PictureLayout<'_>) -> Result<(), AllocError> {
     let mut y = layout.bottom().saturating_add(12);
     for line in LEGEND {
         draw_note(svg, Point { x: 16, y }, line)?;
@@ -45,7 +45,7 @@ fn close_picture(svg: &mut String, layout: &Layout<'_>) -> Result<(), AllocError
 fn draw_shapes(
     alloc: Global,
     svg: &mut String,
-    layout: &Layout<'_>,
+    layout: &PictureLayout<'_>,
     drawing: &Drawing,
     run: &Run,
     explanation: &Explanation,
@@ -82,7 +82,7 @@ pub fn picture_of(
 ) -> Result<String, AllocError> {
     let drawing = drawing_of(alloc, run, explanation)?;
     let tops = tops_of(alloc, run.moves.as_slice())?;
-    let layout = Layout {
+    let layout = PictureLayout {
         columns: drawing.columns.as_slice(),
         tops: tops.as_slice(),
     };

@@ -1,9 +1,9 @@
 //! Draws the rows: each move's request, its node, its replies, and the number of updates committed
 //! after it; called by `painting`.
 use crate::Row;
-use crate::board::{Board, Kind, Spot};
+use crate::board::{Board, MarkKind, Spot};
 use crate::labels::print_move;
-use crate::layout::{Layout, Point, first_out};
+use crate::layout::{PictureLayout, Point, first_out};
 use crate::pen::{Side, draw_box, draw_cross, draw_dot, draw_line, draw_text};
 use craq_model::{Answer, Out};
 use craq_names::{NodeId, Ticket};
@@ -20,7 +20,7 @@ pub(crate) struct Numbered<'a> {
 }
 
 /// Draws a paler background behind every second row.
-fn draw_band(svg: &mut String, layout: &Layout<'_>, number: u64) -> Result<(), AllocError> {
+fn draw_band(svg: &mut String, layout: &PictureLayout<'_>, number: u64) -> Result<(), AllocError> {
     if number % 2 == 1 {
         return Ok(());
     }
@@ -37,7 +37,7 @@ fn draw_band(svg: &mut String, layout: &Layout<'_>, number: u64) -> Result<(), A
 fn draw_number(
     alloc: Global,
     svg: &mut String,
-    layout: &Layout<'_>,
+    layout: &PictureLayout<'_>,
     numbered: &Numbered<'_>,
 ) -> Result<(), AllocError> {
     let y = layout.down(numbered.number).saturating_add(4);
@@ -51,7 +51,7 @@ fn draw_number(
 fn place_words(
     alloc: Global,
     board: &mut Board,
-    layout: &Layout<'_>,
+    layout: &PictureLayout<'_>,
     numbered: &Numbered<'_>,
 ) -> Result<(), AllocError> {
     let mut words = String::new(alloc);
@@ -63,14 +63,14 @@ fn place_words(
         },
         side: Side::Right,
     };
-    board.place(Kind::Move, words, [spot, spot, spot, spot])
+    board.place(MarkKind::Move, words, [spot, spot, spot, spot])
 }
 
 /// Draws the number of updates committed after a move, bold if it is more than before the move.
 fn draw_committed(
     alloc: Global,
     svg: &mut String,
-    layout: &Layout<'_>,
+    layout: &PictureLayout<'_>,
     numbered: &Numbered<'_>,
     before: u64,
 ) -> Result<(), AllocError> {
@@ -94,7 +94,7 @@ fn draw_committed(
 pub(crate) fn draw_margins(
     alloc: Global,
     svg: &mut String,
-    layout: &Layout<'_>,
+    layout: &PictureLayout<'_>,
     rows: &[Row],
     moves: &[Taken],
 ) -> Result<(), AllocError> {
@@ -160,14 +160,14 @@ fn place_answer(
         write!(words, "@{position} ")?;
     }
     print_answer(&mut words, answer)?;
-    board.place(Kind::Reply, words, beside(at.x, at.y))
+    board.place(MarkKind::Reply, words, beside(at.x, at.y))
 }
 
 /// Places the replies among the outputs of a move.
 fn place_answers(
     alloc: Global,
     board: &mut Board,
-    layout: &Layout<'_>,
+    layout: &PictureLayout<'_>,
     numbered: &Numbered<'_>,
     places: &[Place],
 ) -> Result<(), AllocError> {
@@ -187,7 +187,7 @@ fn place_answers(
 /// where a node stops.
 fn draw_place(
     svg: &mut String,
-    layout: &Layout<'_>,
+    layout: &PictureLayout<'_>,
     numbered: &Numbered<'_>,
 ) -> Result<(), AllocError> {
     let at = layout.out_at(&numbered.row, numbered.number, 0, 0);
@@ -207,7 +207,7 @@ fn draw_place(
 fn place_membership(
     alloc: Global,
     board: &mut Board,
-    layout: &Layout<'_>,
+    layout: &PictureLayout<'_>,
     numbered: &Numbered<'_>,
 ) -> Result<(), AllocError> {
     let (node, word) = match &numbered.taken.chosen {
@@ -218,13 +218,13 @@ fn place_membership(
     let mut words = String::new(alloc);
     words.push_str(word)?;
     let spots = beside(layout.across(node), layout.down(numbered.number));
-    board.place(Kind::Reason, words, spots)
+    board.place(MarkKind::Reason, words, spots)
 }
 
 /// Draws the point of each move.
 pub(crate) fn draw_points(
     svg: &mut String,
-    layout: &Layout<'_>,
+    layout: &PictureLayout<'_>,
     rows: &[Row],
     moves: &[Taken],
 ) -> Result<(), AllocError> {
@@ -245,7 +245,7 @@ pub(crate) fn draw_points(
 pub(crate) fn place_replies(
     alloc: Global,
     board: &mut Board,
-    layout: &Layout<'_>,
+    layout: &PictureLayout<'_>,
     rows: &[Row],
     moves: &[Taken],
     places: &[Place],

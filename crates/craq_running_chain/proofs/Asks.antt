@@ -6,7 +6,7 @@ use Rattle.craq_names.specs.declared.name.NodeName.{NodeName}
 use Rattle.craq_names.specs.declared.refusal.Refusal.{Refusal}
 use Rattle.craq_names.specs.declared.refusal.Refusal.TheVariants as refusals
 use Rattle.craq_completions.specs.Refused.{CanRefuse, CanWait, IsUpdate}
-use Rattle.craq_completions.specs.declared.token.Token.{Token}
+use Rattle.craq_completions.specs.declared.token.CallToken.{CallToken}
 use Rattle.craq_model.specs.declared.ask.Ask.{Ask}
 use Rattle.craq_model.specs.declared.ask.Ask.TheVariants as asks
 use Rattle.craq_model.specs.Plain.{Plain}
@@ -16,13 +16,13 @@ use Rattle.craq_running_chain.specs.Asks.{IsPut, IsServed, IsRejected}
 use Rattle.craq_running_chain.specs.Missed.{IsMissed}
 
 -- a caller that takes the step of its own request, where the chain has a thread, is served or rejected
-pub put_at_node : {C : Type 0} (represents : C → Plain → Type 0) (chain_threads : Bool) (name : NodeName) (ask : Ask) (pass : ℕ) (token : Token) (hand : Option (Result Called Refusal))
+pub put_at_node : {C : Type 0} (represents : C → Plain → Type 0) (chain_threads : Bool) (name : NodeName) (ask : Ask) (pass : ℕ) (token : CallToken) (hand : Option (Result Called Refusal))
     → chain_threads ≡ true → IsServed represents name ask pass token hand ⊎ IsRejected hand → IsPut represents chain_threads name ask pass token hand
 put_at_node represents chain_threads name ask pass token hand threads (inl is) = inl (threads, is)
 put_at_node represents chain_threads name ask pass token hand threads (inr is) = inr (inl is)
 
 -- a request is queued, or rejected
-pub put_in_queue : {C : Type 0} (represents : C → Plain → Type 0) (chain_threads : Bool) (name : NodeName) (ask : Ask) (pass : ℕ) (token : Token) (result : Result (Option Called) Refusal)
+pub put_in_queue : {C : Type 0} (represents : C → Plain → Type 0) (chain_threads : Bool) (name : NodeName) (ask : Ask) (pass : ℕ) (token : CallToken) (result : Result (Option Called) Refusal)
     → MatchResult result (λ (found : Option Called). found ≡ None) IsMissed → (chain_threads ≡ false) ⊎ IsUpdate ask → IsPut represents chain_threads name ask pass token (in_hand result)
 put_in_queue represents chain_threads name ask pass token (Ok found) h may = subst (λ (f : Option Called). IsPut represents chain_threads name ask pass token (in_hand (Ok f))) (sym h) (inr (inr may))
 put_in_queue represents chain_threads name ask pass token (Err e) h may = inr (inl h)
@@ -68,13 +68,13 @@ can_or_not ask refusals.BadConfig = inr (λ h. h)
 can_or_not ask refusals.Closed = inl tt
 can_or_not ask refusals.Io = inr (λ h. h)
 
-reported_as : {C : Type 0} (represents : C → Plain → Type 0) (chain_threads : Bool) (name : NodeName) (ask : Ask) (pass : ℕ) (token : Token) (came reported : Refusal)
+reported_as : {C : Type 0} (represents : C → Plain → Type 0) (chain_threads : Bool) (name : NodeName) (ask : Ask) (pass : ℕ) (token : CallToken) (came reported : Refusal)
     → (CanRefuse ask came → reported ≡ came) → (¬ (CanRefuse ask came) → reported ≡ refusals.Closed) → IsPut represents chain_threads name ask pass token (Some (Err came))
     → CanRefuse ask came ⊎ ¬ (CanRefuse ask came) → IsPut represents chain_threads name ask pass token (Some (Err reported))
 reported_as represents chain_threads name ask pass token came reported same closed put (inl can) = subst (λ (e : Refusal). IsPut represents chain_threads name ask pass token (Some (Err e))) (sym (same can)) put
 reported_as represents chain_threads name ask pass token came reported same closed put (inr cannot) = subst (λ (e : Refusal). IsPut represents chain_threads name ask pass token (Some (Err e))) (sym (closed cannot)) (inr (inl tt))
 
 -- it is refused so, or, where no such request may be refused so, as by a closed store
-pub put_reported_as : {C : Type 0} (represents : C → Plain → Type 0) (chain_threads : Bool) (name : NodeName) (ask : Ask) (pass : ℕ) (token : Token) (came reported : Refusal)
+pub put_reported_as : {C : Type 0} (represents : C → Plain → Type 0) (chain_threads : Bool) (name : NodeName) (ask : Ask) (pass : ℕ) (token : CallToken) (came reported : Refusal)
     → (CanRefuse ask came → reported ≡ came) → (¬ (CanRefuse ask came) → reported ≡ refusals.Closed) → IsPut represents chain_threads name ask pass token (Some (Err came)) → IsPut represents chain_threads name ask pass token (Some (Err reported))
 put_reported_as represents chain_threads name ask pass token came reported same closed put = reported_as represents chain_threads name ask pass token came reported same closed put (can_or_not ask came)

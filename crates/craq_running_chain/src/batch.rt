@@ -16,9 +16,9 @@ use craq_model::Event;
 use craq_names::{Refusal, Seq};
 use craq_node::Core;
 use craq_running_node::{
-    Arrival, Delivery, Gate, OwnAsk, OwnReply, QueuedAsk, Replies, RunningNode, SeatedNode,
+    ArrivedEvent, Delivery, Gate, OwnAsk, OwnReply, QueuedAsk, Replies, RunningNode, SeatedNode,
     entries_of, lone_entry_of, messages_of, owed_by, refuse_asked, refuse_own, take_event,
-    take_own, take_queued,
+    take_own_ask, take_queued_ask,
 };
 use craq_store_parts::{Messages, OwedAck, Wire};
 use std::alloc::Global;
@@ -98,8 +98,8 @@ impl<'a, C: Core + Named, G: Gate> NodeBatch<'a, C, G> {
         }
     }
 
-    /// Ends the batch: sends what is held back and what is owed, unlocks the node, and then sends
-    /// the replies to callers.
+    /// Ends the batch: sends what is held back (`flush`), as several entries in a batch message, and
+    /// what is owed, a lone acknowledgement. Then unlocks the node, and sends the replies to callers.
     pub(crate) fn end<R: Wait>(self, rt: &R) {
         let mut batch = self;
         batch.flush(rt);
@@ -175,14 +175,14 @@ impl<'a, C: Core + Named, G: Gate> NodeBatch<'a, C, G> {
         match wire.read(self.exit.alloc) {
             Ok((message, token)) => {
                 let event = Event::Deliver(message);
-                self.deliver(rt, Arrival { event, token });
+                self.deliver(rt, ArrivedEvent { event, token });
             }
             Err(_) => self.exit.node.losses.add(),
         }
     }
 
     /// Takes the step on a message, and sends what it sends.
-    fn deliver<R: Wait>(&mut self, rt: &R, arrival: Arrival<C>)
+    fn deliver<R: Wait>(&mut self, rt: &R, arrival: ArrivedEvent<C>)
         requires arrives { CanArrive arrival.event }
         requires may { MayHappen arrival.token (mutex_guard_value self.old.seated).desk.cell.opening.name arrival.event None }
         ensures { ReactsTo C.represents (mutex_guard_value self.old.seated) (mutex_guard_value self.new.seated) arrival.event self.old.replies self.new.replies }
@@ -202,7 +202,7 @@ impl<'a, C: Core + Named, G: Gate> NodeBatch<'a, C, G> {
         let history = &self.exit.shared.history;
         let event = Event::Tick;
         let token = self.seated.desk.token(history);
-        let arrival = Arrival { event, token };
+        let arrival = ArrivedEvent { event, token };
         take_event(rt, history, &mut self.seated, arrival, &mut self.replies)
     }
 
@@ -213,7 +213,7 @@ impl<'a, C: Core + Named, G: Gate> NodeBatch<'a, C, G> {
     {
         if self.exit.node.is_closed() {
             refuse_asked(rt, asked, &mut self.replies);
-        } else if take_queued(
+        } else if take_queued_ask(
             rt,
             &self.exit.shared.history,
             &mut self.seated,
@@ -233,7 +233,7 @@ impl<'a, C: Core + Named, G: Gate> NodeBatch<'a, C, G> {
             return Err(refuse_own(own, Refusal::Closed));
         }
         let history = &self.exit.shared.history;
-        match take_own(rt, history, &mut self.seated, own, &mut self.replies) {
+        match take_own_ask(rt, history, &mut self.seated, own, &mut self.replies) {
             Err(refusal) => Err(refusal),
             Ok(reply) => {
                 self.post_step(rt);

@@ -49,7 +49,7 @@ pub enum Wakes {
 /// The part of a chain that a caller may run for its own request.
 #[derive(Clone, Copy)]
 pub enum Reach {
-    /// The node that it asks.
+    /// The node that it asks, for a read. An update waits in the queue of its node.
     OneNode,
     /// All nodes of the chain: the caller has no other request.
     WholeChain,
@@ -60,8 +60,8 @@ pub enum Reach {
 
 /// The way of a request to its node.
 #[derive(Clone, Copy)]
-enum Way {
-    /// The caller takes the step; the chain's threads go on from there.
+enum RequestWay {
+    /// The caller takes the step, of a read; the chain's threads go on from there.
     OwnStep,
     /// The caller takes the step, and then what waits at the nodes: it has the chain thread's place.
     Inline,
@@ -197,23 +197,23 @@ impl<C: Core + Named, G: Gate> Shared<C, G> {
     /// takes the step of a read, and of an update if it may run the whole chain and that thread
     /// sleeps: then it takes that thread's place. It may leave an update in the queue for later.
     /// Without one, every request goes into the queue of its node.
-    fn way_of(&self, chain: &Chain<C>, ask: &Ask, reach: Reach) -> Way
-        ensures own_step { result ≡ Way.OwnStep → self.now.chain_threads ≡ true }
-        ensures inline_step { result ≡ Way.Inline → self.now.chain_threads ≡ true }
-        ensures queue { result ≡ Way.Queue → (self.now.chain_threads ≡ false) ⊎ IsUpdate ask.now }
-        ensures for_caller { result ≡ Way.QueueForCaller → IsUpdate ask.now }
+    fn way_of(&self, chain: &Chain<C>, ask: &Ask, reach: Reach) -> RequestWay
+        ensures own_step { result ≡ RequestWay.OwnStep → self.now.chain_threads ≡ true }
+        ensures inline_step { result ≡ RequestWay.Inline → self.now.chain_threads ≡ true }
+        ensures queue { result ≡ RequestWay.Queue → (self.now.chain_threads ≡ false) ⊎ IsUpdate ask.now }
+        ensures for_caller { result ≡ RequestWay.QueueForCaller → IsUpdate ask.now }
     {
         if self.chain_threads {
             if !is_update(ask) {
-                return Way::OwnStep;
+                return RequestWay::OwnStep;
             }
             match reach {
-                Reach::WholeChainLater => Way::QueueForCaller,
-                Reach::WholeChain if chain.wake_up.take_place() => Way::Inline,
-                Reach::WholeChain | Reach::OneNode => Way::Queue,
+                Reach::WholeChainLater => RequestWay::QueueForCaller,
+                Reach::WholeChain if chain.wake_up.take_place() => RequestWay::Inline,
+                Reach::WholeChain | Reach::OneNode => RequestWay::Queue,
             }
         } else {
-            Way::Queue
+            RequestWay::Queue
         }
     }
 
@@ -229,18 +229,18 @@ impl<C: Core + Named, G: Gate> Shared<C, G> {
         ensures { IsPut C.represents self.now.chain_threads own.entry.made.name own.entry.made.ask own.entry.pass own.entry.at.token (in_hand result) }
     {
         match self.way_of(chain, own.made.ask(), reach) {
-            Way::OwnStep => self.serve_at(rt, chain, own, Wakes::ChainThread),
-            Way::Inline => {
+            RequestWay::OwnStep => self.serve_at(rt, chain, own, Wakes::ChainThread),
+            RequestWay::Inline => {
                 let reply = self.serve_at(rt, chain, own, Wakes::Nobody);
                 run_inline(rt, self, chain);
                 reply
             }
-            Way::Queue => {
+            RequestWay::Queue => {
                 let queued = queue(rt, chain, own);
                 chain.wake_up.ring();
                 queued
             }
-            Way::QueueForCaller => {
+            RequestWay::QueueForCaller => {
                 let queued = queue(rt, chain, own);
                 chain.wake_up.leave();
                 queued

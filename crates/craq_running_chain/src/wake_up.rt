@@ -30,7 +30,7 @@ impl WakeUp {
         }
     }
 
-    /// Wakes the chain thread if it sleeps. What waits has to be there before.
+    /// Wakes the chain thread (`run_chain_thread`) if it sleeps. What waits has to be there before.
     pub(crate) fn ring(&self) {
         if self.idle.load(Ordering::SeqCst) && self.idle.swap(false, Ordering::SeqCst) {
             self.parker.unpark();

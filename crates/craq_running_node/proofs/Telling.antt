@@ -8,7 +8,7 @@ use Rattle.std.specs.declared.alloc.Global.{Global}
 use Rattle.craq_names.specs.declared.name.NodeName.{NodeName}
 use Rattle.craq_names.specs.declared.refusal.Refusal.{Refusal}
 use Rattle.craq_names.specs.declared.refusal.Refusal.TheVariants as refusals
-use Rattle.craq_completions.specs.declared.token.Token.{Token}
+use Rattle.craq_completions.specs.declared.token.CallToken.{CallToken}
 use Rattle.craq_model.specs.declared.ask.Event.{Event}
 use Rattle.craq_model.specs.declared.step.Step.{Step}
 use Rattle.craq_model.specs.Plain.{Plain}
@@ -25,12 +25,12 @@ abbrev pub Outcomes : Type 0
 Outcomes = List (ℕ × Result Called Refusal)
 
 -- the caller that is found under a ticket has it
-pub found_under : (callers : List (Caller Token)) (ticket : ℕ) (c : Caller Token) → Some c ≡ caller_under callers ticket → c.ticket ≡ ticket
+pub found_under : (callers : List (Caller CallToken)) (ticket : ℕ) (c : Caller CallToken) → Some c ≡ caller_under callers ticket → c.ticket ≡ ticket
 found_under [] ticket c is = absurd cc
 found_under (d ∷ ds) ticket c is = grind (arith, found_under ds ticket c)
 
 -- a reply that may be given under a ticket may be given to the caller that is found there
-pub to_found : (callers : List (Caller Token)) (ticket : ℕ) (c : Caller Token) (o : Result Called Refusal) → Some c ≡ caller_under callers ticket → IsReplyTo (Some ticket) o → IsReplyTo (Some c.ticket) o
+pub to_found : (callers : List (Caller CallToken)) (ticket : ℕ) (c : Caller CallToken) (o : Result Called Refusal) → Some c ≡ caller_under callers ticket → IsReplyTo (Some ticket) o → IsReplyTo (Some c.ticket) o
 to_found callers ticket c o is may = subst (λ (n : ℕ). IsReplyTo (Some n) o) (sym (found_under callers ticket c is)) may
 
 pub keeps_none : (old : PendingReplies) → Keeps old [] old
@@ -45,8 +45,8 @@ kept_or_reported old new t None kept back = (t ∷ [], (kept refl).0, inl (refl,
 kept_or_reported old new t (Some u) kept back = ([], back.0 ∙ sym (append-nil old.replies), tt, λ room. absurd (true≢false (sym back.1 ∙ room)), λ all. absurd (none_all t all))
 
 -- no caller is found, so none gets a reply
-pub none_reported : (old : PendingReplies) (found : Option (Caller Token)) (o : Result Called Refusal) → None ≡ found → Keeps old (reply_to found o) old
-none_reported old found o is = subst (λ (f : Option (Caller Token)). Keeps old (reply_to f o) old) is (keeps_none old)
+pub none_reported : (old : PendingReplies) (found : Option (Caller CallToken)) (o : Result Called Refusal) → None ≡ found → Keeps old (reply_to found o) old
+none_reported old found o is = subst (λ (f : Option (Caller CallToken)). Keeps old (reply_to f o) old) is (keeps_none old)
 
 some_behind : (xs before all : List Reply) → AreSomeOf xs all → AreSomeOf xs (before ++ all)
 some_behind xs [] all h = h
@@ -90,28 +90,28 @@ keeps_both old first more mid new (xs, is, some, all, full) (ys, so, others, res
 )
 
 -- these outcomes are left of all: the replies so far and those to come are all replies, and the callers that will wait are the same
-abbrev pub Left : List (Caller Token) → List (Caller Token) → PendingReplies → PendingReplies → Outcomes → Outcomes → Type 0
+abbrev pub Left : List (Caller CallToken) → List (Caller CallToken) → PendingReplies → PendingReplies → Outcomes → Outcomes → Type 0
 Left first now before after all rest =
     (done : List Reply) × (done ++ replies_to now rest ≡ replies_to first all) × Keeps before done after × (waiting_after now rest ≡ waiting_after first all)
 
-pub left_first : (callers : List (Caller Token)) (replies : PendingReplies) (all : Outcomes) → Left callers callers replies replies all all
+pub left_first : (callers : List (Caller CallToken)) (replies : PendingReplies) (all : Outcomes) → Left callers callers replies replies all all
 left_first callers replies all = ([], refl, keeps_none replies, refl)
 
 -- one goes to the caller under its ticket
-pub left_next : (first now new : List (Caller Token)) (before mid after : PendingReplies) (all rest : Outcomes) (ticket : ℕ) (o : Result Called Refusal)
+pub left_next : (first now new : List (Caller CallToken)) (before mid after : PendingReplies) (all rest : Outcomes) (ticket : ℕ) (o : Result Called Refusal)
     → Left first now before mid all ((ticket, o) ∷ rest) → new ≡ without_caller now ticket → Keeps mid (reply_to (caller_under now ticket) o) after → Left first new before after all rest
 left_next first now new before mid after all rest ticket o (done, replied, kept, waits) goes more =
     let one = reply_to (caller_under now ticket) o in (
       done ++ one,
-      append_assoc done one (replies_to new rest) ∙ ap (λ (cs : List (Caller Token)). done ++ (one ++ replies_to cs rest)) goes ∙ replied,
+      append_assoc done one (replies_to new rest) ∙ ap (λ (cs : List (Caller CallToken)). done ++ (one ++ replies_to cs rest)) goes ∙ replied,
       keeps_both before done one mid after kept more,
-      ap (λ (cs : List (Caller Token)). waiting_after cs rest) goes ∙ waits,
+      ap (λ (cs : List (Caller CallToken)). waiting_after cs rest) goes ∙ waits,
     )
 
-pub left_reported : (first now : List (Caller Token)) (before after : PendingReplies) (all : Outcomes) → Left first now before after all [] → Keeps before (replies_to first all) after
+pub left_reported : (first now : List (Caller CallToken)) (before after : PendingReplies) (all : Outcomes) → Left first now before after all [] → Keeps before (replies_to first all) after
 left_reported first now before after all (done, replied, kept, waits) = subst (λ (rs : List Reply). Keeps before rs after) (sym (append-nil done) ∙ replied) kept
 
-pub left_waits : (first now : List (Caller Token)) (before after : PendingReplies) (all : Outcomes) → Left first now before after all [] → now ≡ waiting_after first all
+pub left_waits : (first now : List (Caller CallToken)) (before after : PendingReplies) (all : Outcomes) → Left first now before after all [] → now ≡ waiting_after first all
 left_waits first now before after all (done, replied, kept, waits) = waits
 
 -- the own receipt is the last one of these, if any is, else the one before them
@@ -161,9 +161,9 @@ says_own ticket (Ok receipts) = may_be ticket (own_receipt ticket receipts.items
 says_own ticket (Err e) = tt
 
 -- nobody gets a reply in between
-pub left_same : (first now new : List (Caller Token)) (before mid after : PendingReplies) (all rest : Outcomes) → new ≡ now → after ≡ mid → Left first now before mid all rest → Left first new before after all rest
+pub left_same : (first now new : List (Caller CallToken)) (before mid after : PendingReplies) (all rest : Outcomes) → new ≡ now → after ≡ mid → Left first now before mid all rest → Left first new before after all rest
 left_same first now new before mid after all rest callers replies left =
-    subst (λ (cs : List (Caller Token)). Left first cs before after all rest) (sym callers) (subst (λ (rs : PendingReplies). Left first now before rs all rest) (sym replies) left)
+    subst (λ (cs : List (Caller CallToken)). Left first cs before after all rest) (sym callers) (subst (λ (rs : PendingReplies). Left first now before rs all rest) (sym replies) left)
 
 -- a desk whose cell took a step did so under its receipt, with the pass that was shown
 stepped : {C : Type 0} (represents : C → Plain → Type 0) (old took new : Desked C) (event : Event) (receipt : Receipt) (shown pass : ℕ)
@@ -178,7 +178,7 @@ pub refused : {C : Type 0} (represents : C → Plain → Type 0) (old new : Desk
 refused represents old new event shown pass e alike step = subst (λ (p : ℕ). Steps represents old new event p (Err e)) alike step
 
 -- so the callers of a step got their replies
-pub reported_callers : {C : Type 0} (represents : C → Plain → Type 0) (old : SeatedNode C) (took new : Desked C) (callers : List (Caller Token)) (event : Event) (receipt : Receipt) (shown pass : ℕ) (ticket : Option ℕ) (calls : Result (Vec Called Global) AllocError) (before after : PendingReplies)
+pub reported_callers : {C : Type 0} (represents : C → Plain → Type 0) (old : SeatedNode C) (took new : Desked C) (callers : List (Caller CallToken)) (event : Event) (receipt : Receipt) (shown pass : ℕ) (ticket : Option ℕ) (calls : Result (Vec Called Global) AllocError) (before after : PendingReplies)
     → new ≡ took → receipt ≡ receipt_of took.cell → shown ≡ pass → Steps represents old.desk took event shown (Ok receipt)
     → IfSome took.cell.last (λ (step : Step). CallsOf old.desk.waiting took.waiting event receipt shown step calls)
     → callers ≡ waiting_after old.callers.items (said_by calls took.cell.last ticket)
@@ -197,23 +197,23 @@ says_it own ticket calls reply same says =
     (subst (λ (r : Option (Result Called Refusal)). IfSome r (λ (o : Result Called Refusal). IsReplyTo own o)) (sym says) (says_own own calls))
 
 -- the outcome that a caller has in hand after the step of its request, under the ticket of the step
-pub hand_after : (token : Token) (ticket now : Option ℕ) (calls : Result (Vec Called Global) AllocError) (reply hand : Option (Result Called Refusal)) (old new : List (Caller Token)) (before after : PendingReplies)
+pub hand_after : (token : CallToken) (ticket now : Option ℕ) (calls : Result (Vec Called Global) AllocError) (reply hand : Option (Result Called Refusal)) (old new : List (Caller CallToken)) (before after : PendingReplies)
     → ticket ≡ now → reply ≡ said_to ticket calls → HasInHand token ticket reply hand old new before after → HasInHand token now (said_to now calls) hand old new before after
 hand_after token ticket now calls reply hand old new before after same says has =
     subst (λ (t : Option ℕ). HasInHand token t (said_to t calls) hand old new before after) same
     (subst (λ (r : Option (Result Called Refusal)). HasInHand token ticket r hand old new before after) says has)
 
 -- a caller waits behind the others
-pub waits_behind : (token : Token) (accepted : Option Accepted) (a : Accepted) (old new : List (Caller Token)) (caller : Caller Token) (replies : PendingReplies)
+pub waits_behind : (token : CallToken) (accepted : Option Accepted) (a : Accepted) (old new : List (Caller CallToken)) (caller : Caller CallToken) (replies : PendingReplies)
     → accepted ≡ Some a → caller ≡ waits_as a.ticket token → new ≡ old ++ caller ∷ [] → Waits token (ticket_in accepted) old new replies replies
 waits_behind token accepted a old new caller replies is made behind =
-    subst (λ (o : Option Accepted). Waits token (ticket_in o) old new replies replies) (sym is) (inl (behind ∙ ap (λ (c : Caller Token). old ++ c ∷ []) made, refl))
+    subst (λ (o : Option Accepted). Waits token (ticket_in o) old new replies replies) (sym is) (inl (behind ∙ ap (λ (c : Caller CallToken). old ++ c ∷ []) made, refl))
 
-abbrev pub without_room : Caller Token → Reply
+abbrev pub without_room : Caller CallToken → Reply
 without_room caller = record { to = recipient_of caller; outcome = Err refusals.Memory }
 
 -- there is no room to wait, and it is refused
-pub waits_nowhere : (token : Token) (accepted : Option Accepted) (a : Accepted) (old new : List (Caller Token)) (caller back : Caller Token) (reply : Reply) (before after : PendingReplies)
+pub waits_nowhere : (token : CallToken) (accepted : Option Accepted) (a : Accepted) (old new : List (Caller CallToken)) (caller back : Caller CallToken) (reply : Reply) (before after : PendingReplies)
     → accepted ≡ Some a → caller ≡ waits_as a.ticket token → back ≡ caller → reply ≡ without_room back → new ≡ old → Keeps before (reply ∷ []) after → Waits token (ticket_in accepted) old new before after
 waits_nowhere token accepted a old new caller back reply before after is made given so same kept =
     let to : reply ≡ without_room (waits_as a.ticket token) = so ∙ ap without_room (given ∙ made) in

@@ -7,7 +7,7 @@ use Rattle.std.specs.declared.alloc.Global.{Global}
 use Rattle.craq_names.specs.declared.name.NodeName.{NodeName}
 use Rattle.craq_names.specs.declared.refusal.Refusal.{Refusal}
 use Rattle.craq_names.specs.declared.refusal.Refusal.TheVariants as refusals
-use Rattle.craq_completions.specs.declared.token.Token.{Token}
+use Rattle.craq_completions.specs.declared.token.CallToken.{CallToken}
 use Rattle.craq_model.specs.declared.ask.Ask.{Ask}
 use Rattle.craq_model.specs.declared.ask.Event.{Event}
 use Rattle.craq_model.specs.declared.ask.Event.TheVariants as events
@@ -27,7 +27,7 @@ use Rattle.craq_running_node.specs.declared.steps.SeatedNode.{SeatedNode}
 -- the caller to whom a reply goes: the token of its completion, and the ticket of its request once a node has accepted it
 pub record Recipient : Type 0 where
   pub ticket : Option ℕ
-  pub token : Token
+  pub token : CallToken
 
 -- the ticket of a call that was accepted
 abbrev pub ticket_in : Option Accepted → Option ℕ
@@ -44,33 +44,33 @@ IsReplyTo ticket (Ok receipt) = ticket ≡ Some receipt.call.ticket
 IsReplyTo ticket (Err refusal) = Unit {0}
 
 -- a caller that waits, by its ticket and its token
-abbrev pub waits_as : ℕ → Token → Caller Token
+abbrev pub waits_as : ℕ → CallToken → Caller CallToken
 waits_as ticket token = record { ticket = ticket; at = token }
 
 -- that caller, once a reply is due to it
-abbrev pub recipient_of : Caller Token → Recipient
+abbrev pub recipient_of : Caller CallToken → Recipient
 recipient_of caller = record { ticket = Some caller.ticket; token = caller.at }
 
 -- the first caller that waits under a ticket
-abbrev pub caller_under : List (Caller Token) → ℕ → Option (Caller Token)
-caller_under callers ticket = find (λ (caller : Caller Token). caller.ticket == ticket) callers
+abbrev pub caller_under : List (Caller CallToken) → ℕ → Option (Caller CallToken)
+caller_under callers ticket = find (λ (caller : Caller CallToken). caller.ticket == ticket) callers
 
 -- the callers without that one
-abbrev pub without_caller : List (Caller Token) → ℕ → List (Caller Token)
-without_caller callers ticket = remove_key (λ (caller : Caller Token). caller.ticket == ticket) callers
+abbrev pub without_caller : List (Caller CallToken) → ℕ → List (Caller CallToken)
+without_caller callers ticket = remove_key (λ (caller : Caller CallToken). caller.ticket == ticket) callers
 
 -- the reply to a caller, if there is one
-abbrev pub reply_to : Option (Caller Token) → Result Called Refusal → List Reply
+abbrev pub reply_to : Option (Caller CallToken) → Result Called Refusal → List Reply
 reply_to None outcome = []
 reply_to (Some caller) outcome = record { to = recipient_of caller; outcome = outcome } ∷ []
 
 -- outcomes by their tickets: each goes to the first caller that waits under its ticket, which then waits no more. The replies
-abbrev pub replies_to : List (Caller Token) → List (ℕ × Result Called Refusal) → List Reply
+abbrev pub replies_to : List (Caller CallToken) → List (ℕ × Result Called Refusal) → List Reply
 replies_to callers [] = []
 replies_to callers (o ∷ os) = reply_to (caller_under callers o.0) o.1 ++ replies_to (without_caller callers o.0) os
 
 -- the callers that still wait after these outcomes
-abbrev pub waiting_after : List (Caller Token) → List (ℕ × Result Called Refusal) → List (Caller Token)
+abbrev pub waiting_after : List (Caller CallToken) → List (ℕ × Result Called Refusal) → List (Caller CallToken)
 waiting_after callers [] = callers
 waiting_after callers (o ∷ os) = waiting_after (without_caller callers o.0) os
 
@@ -126,18 +126,18 @@ said_to ticket (Ok receipts) = option_map Ok (own_receipt ticket receipts.items)
 said_to ticket (Err e) = Some (Err refusals.Memory)
 
 -- a caller gets this outcome, and the others wait as before
-abbrev pub IsReported : Recipient → Result Called Refusal → List (Caller Token) → List (Caller Token) → PendingReplies → PendingReplies → Type 0
+abbrev pub IsReported : Recipient → Result Called Refusal → List (Caller CallToken) → List (Caller CallToken) → PendingReplies → PendingReplies → Type 0
 IsReported caller outcome old new before after = (new ≡ old) × Keeps before (record { to = caller; outcome = outcome } ∷ []) after
 
 -- a caller waits behind the others under this ticket, and nobody gets a reply; without room or ticket, it is refused
-abbrev pub Waits : Token → Option ℕ → List (Caller Token) → List (Caller Token) → PendingReplies → PendingReplies → Type 0
+abbrev pub Waits : CallToken → Option ℕ → List (Caller CallToken) → List (Caller CallToken) → PendingReplies → PendingReplies → Type 0
 Waits token None old new before after = IsReported (record { ticket = None; token = token }) (Err refusals.Closed) old new before after
 Waits token (Some ticket) old new before after =
     ((new ≡ old ++ waits_as ticket token ∷ []) × (after ≡ before))
     ⊎ IsReported (record { ticket = Some ticket; token = token }) (Err refusals.Memory) old new before after
 
 -- a caller whose request was accepted gets the outcome if there is one, and else waits
-abbrev pub Settles : Token → Option ℕ → Option (Result Called Refusal) → List (Caller Token) → List (Caller Token) → PendingReplies → PendingReplies → Type 0
+abbrev pub Settles : CallToken → Option ℕ → Option (Result Called Refusal) → List (Caller CallToken) → List (Caller CallToken) → PendingReplies → PendingReplies → Type 0
 Settles token ticket (Some outcome) old new before after = IsReported (record { ticket = ticket; token = token }) outcome old new before after
 Settles token ticket None old new before after = Waits token ticket old new before after
 
@@ -147,7 +147,7 @@ in_hand (Ok receipt) = option_map Ok receipt
 in_hand (Err e) = Some (Err e)
 
 -- a caller that took the step of its own request has the outcome in hand if there is one; else it waits, or has a refusal in hand
-abbrev pub HasInHand : Token → Option ℕ → Option (Result Called Refusal) → Option (Result Called Refusal) → List (Caller Token) → List (Caller Token) → PendingReplies → PendingReplies → Type 0
+abbrev pub HasInHand : CallToken → Option ℕ → Option (Result Called Refusal) → Option (Result Called Refusal) → List (Caller CallToken) → List (Caller CallToken) → PendingReplies → PendingReplies → Type 0
 HasInHand token ticket (Some outcome) hand old new before after = (hand ≡ Some outcome) × (new ≡ old) × (after ≡ before)
 HasInHand token ticket None (Some outcome) old new before after = (outcome ≡ Err refusals.Memory) × (new ≡ old) × (after ≡ before)
 HasInHand token ticket None None old new before after = Waits token ticket old new before after
@@ -174,7 +174,7 @@ RefusesAsked represents old new name ask pass e =
 
 -- the step of this event was taken, and accepted a request under this ticket or none. It gave the receipts of the desk's calls, or found
 -- no memory for them. The callers that wait get these outcomes, except the caller of this ticket, which does not wait yet
-abbrev pub TellsCallers : {C : Type 0} → (C → Plain → Type 0) → SeatedNode C → Desked C → List (Caller Token) → Event → ℕ → Option ℕ → Result (Vec Called Global) AllocError → PendingReplies → PendingReplies → Type 0
+abbrev pub TellsCallers : {C : Type 0} → (C → Plain → Type 0) → SeatedNode C → Desked C → List (Caller CallToken) → Event → ℕ → Option ℕ → Result (Vec Called Global) AllocError → PendingReplies → PendingReplies → Type 0
 TellsCallers represents old desk callers event pass ticket calls before after =
     Steps represents old.desk desk event pass (Ok (receipt_of desk.cell))
     × IfSome desk.cell.last (λ (step : Step). CallsOf old.desk.waiting desk.waiting event (receipt_of desk.cell) pass step calls)
@@ -189,26 +189,26 @@ ReactsTo represents old new event before after =
     ⊎ ((e : Refusal) × RefusesStep represents old.desk new.desk event 0 e × (new.callers.items ≡ old.callers.items) × (after ≡ before))
 
 -- the step of a queued request was taken: the callers that waited get its replies, and this one gets a reply or waits
-abbrev pub TakesQueued : {C : Type 0} → (C → Plain → Type 0) → SeatedNode C → SeatedNode C → Ask → ℕ → Token → PendingReplies → PendingReplies → Type 0
+abbrev pub TakesQueued : {C : Type 0} → (C → Plain → Type 0) → SeatedNode C → SeatedNode C → Ask → ℕ → CallToken → PendingReplies → PendingReplies → Type 0
 TakesQueued represents old new ask pass token before after =
-    (calls : Result (Vec Called Global) AllocError) × (callers : List (Caller Token)) × (mid : PendingReplies)
+    (calls : Result (Vec Called Global) AllocError) × (callers : List (Caller CallToken)) × (mid : PendingReplies)
     × TellsCallers represents old new.desk callers (events.Ask ask) pass (ticket_of new.desk.cell.last) calls before mid
     × Settles token (ticket_of new.desk.cell.last) (said_to (ticket_of new.desk.cell.last) calls) callers new.callers.items mid after
 
 -- a queued request was refused: the desk is as it was, this caller alone gets a reply, and the others wait on
-abbrev pub RefusesQueued : {C : Type 0} → (C → Plain → Type 0) → SeatedNode C → SeatedNode C → NodeName → Ask → ℕ → Token → PendingReplies → PendingReplies → Type 0
+abbrev pub RefusesQueued : {C : Type 0} → (C → Plain → Type 0) → SeatedNode C → SeatedNode C → NodeName → Ask → ℕ → CallToken → PendingReplies → PendingReplies → Type 0
 RefusesQueued represents old new name ask pass token before after =
     (e : Refusal) × RefusesAsked represents old.desk new.desk name ask pass e
     × IsReported (record { ticket = None; token = token }) (Err e) old.callers.items new.callers.items before after
 
 -- the store is closed: no step was taken, this caller alone is refused, and the others wait on
-abbrev pub ClosesQueued : {C : Type 0} → SeatedNode C → SeatedNode C → Token → PendingReplies → PendingReplies → Type 0
+abbrev pub ClosesQueued : {C : Type 0} → SeatedNode C → SeatedNode C → CallToken → PendingReplies → PendingReplies → Type 0
 ClosesQueued old new token before after = (new ≡ old) × Keeps before (record { to = record { ticket = None; token = token }; outcome = Err refusals.Closed } ∷ []) after
 
 -- a caller took the step of its own request: the callers that waited get its replies, and this one has its reply in hand or waits
-abbrev pub TakesOwn : {C : Type 0} → (C → Plain → Type 0) → SeatedNode C → SeatedNode C → Ask → ℕ → Token → Option (Result Called Refusal) → PendingReplies → PendingReplies → Type 0
+abbrev pub TakesOwn : {C : Type 0} → (C → Plain → Type 0) → SeatedNode C → SeatedNode C → Ask → ℕ → CallToken → Option (Result Called Refusal) → PendingReplies → PendingReplies → Type 0
 TakesOwn represents old new ask pass token hand before after =
-    (calls : Result (Vec Called Global) AllocError) × (callers : List (Caller Token)) × (mid : PendingReplies)
+    (calls : Result (Vec Called Global) AllocError) × (callers : List (Caller CallToken)) × (mid : PendingReplies)
     × TellsCallers represents old new.desk callers (events.Ask ask) pass (ticket_of new.desk.cell.last) calls before mid
     × HasInHand token (ticket_of new.desk.cell.last) (said_to (ticket_of new.desk.cell.last) calls) hand callers new.callers.items mid after
 

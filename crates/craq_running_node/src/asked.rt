@@ -3,8 +3,8 @@
 ghost use Rattle.std.specs.Prelude.{◌≡◌};
 
 use crate::call_refusal::CallRefusal;
-use crate::callers::Outcome;
-use craq_completions::{CompletionQueue, CompletionSender, Token};
+use crate::callers::CallOutcome;
+use craq_completions::{CallToken, CompletionQueue, CompletionSender};
 use craq_ghost_history::Named;
 use craq_names::{Pass, Refusal};
 use craq_store_parts::MadeAsk;
@@ -22,15 +22,15 @@ pub struct Asked<N: Named, P: Drop> {
 /// The destination of a completion for which no room is reserved yet: the queue, and the token.
 #[derive(Drop)]
 pub struct Destination<'a, N: Named> {
-    pub completions: &'a Arc<CompletionQueue<Outcome<N>>>,
-    pub token: Token,
+    pub completions: &'a Arc<CompletionQueue<CallOutcome<N>>>,
+    pub token: CallToken,
 }
 
 /// A request whose caller may take its step. It needs a completion only if it waits then.
 pub type OwnAsk<'a, N> = Asked<N, Destination<'a, N>>;
 
 /// A request in a node's queue: its caller waits for a completion.
-pub type QueuedAsk<N> = Asked<N, CompletionSender<Outcome<N>>>;
+pub type QueuedAsk<N> = Asked<N, CompletionSender<CallOutcome<N>>>;
 
 /// Refuses a caller's own request before its step, and gives its call back.
 pub fn refuse_own<N: Named>(own: OwnAsk<'_, N>, refusal: Refusal) -> CallRefusal<N>

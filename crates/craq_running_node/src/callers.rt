@@ -14,7 +14,7 @@ use std::sync::Wait;
 
 /// The outcome of a call: its reply with the call that its node accepted, or the refusal. A
 /// contract sees the receipt of the reply.
-pub type Outcome<N> = Result<AnsweredCall<N>, CallRefusal<N>>;
+pub type CallOutcome<N> = Result<AnsweredCall<N>, CallRefusal<N>>;
 
 /// The reply that the caller of a step has in hand, or `None` if a completion will come.
 pub type OwnReply<N> = Result<Option<AnsweredCall<N>>, CallRefusal<N>>;
@@ -27,14 +27,14 @@ pub(crate) type StepOutcome<N> = Result<StepReceipt<N>, CallRefusal<N>>;
 #[derive(Drop)]
 pub struct PendingCaller<N: Named> {
     accepted: AcceptedCall<N>,
-    at: CompletionSender<Outcome<N>>,
+    at: CompletionSender<CallOutcome<N>>,
 }
 
 impl<N: Named> Model for PendingCaller<N> {
-    ghost use Rattle.craq_completions.specs.declared.token.Token.{Token};
+    ghost use Rattle.craq_completions.specs.declared.token.CallToken.{CallToken};
     ghost use Rattle.craq_seat.specs.declared.seat.Caller.{Caller};
 
-    ghost Value = { Caller Token };
+    ghost Value = { Caller CallToken };
 
     ghost view = { λ p. record { ticket = p.accepted.ticket; at = p.at } };
 }
@@ -49,7 +49,7 @@ impl<N: Named> Ticketed for PendingCaller<N> {
 
 impl<N: Named> PendingCaller<N> {
     /// Makes the caller of a call that a node accepted.
-    pub(crate) fn new(accepted: AcceptedCall<N>, at: CompletionSender<Outcome<N>>) -> Self
+    pub(crate) fn new(accepted: AcceptedCall<N>, at: CompletionSender<CallOutcome<N>>) -> Self
         ensures { result ≡ record { ticket = accepted.ticket; at = at } }
     {
         PendingCaller { accepted, at }
@@ -80,7 +80,10 @@ pub(crate) fn joined<N: Named>(
 }
 
 /// Returns the outcome of a call that a node accepted.
-fn outcome_of<N: Named>(accepted: Option<AcceptedCall<N>>, outcome: StepOutcome<N>) -> Outcome<N>
+fn outcome_of<N: Named>(
+    accepted: Option<AcceptedCall<N>>,
+    outcome: StepOutcome<N>,
+) -> CallOutcome<N>
     requires { IsReplyTo (ticket_in accepted) outcome }
     ensures { result ≡ outcome }
 {
@@ -97,8 +100,8 @@ fn outcome_of<N: Named>(accepted: Option<AcceptedCall<N>>, outcome: StepOutcome<
 /// ticket. It has no drop, so it is kept until it is sent (`tell`).
 pub(crate) struct ReadyReply<N: Named> {
     ticket: Option<Ticket>,
-    at: CompletionSender<Outcome<N>>,
-    outcome: Outcome<N>,
+    at: CompletionSender<CallOutcome<N>>,
+    outcome: CallOutcome<N>,
 }
 
 impl<N: Named> Model for ReadyReply<N> {
@@ -115,7 +118,7 @@ impl<N: Named> ReadyReply<N> {
     /// Makes the reply to a caller, with its call if a node has accepted it.
     pub(crate) fn new(
         accepted: Option<AcceptedCall<N>>,
-        at: CompletionSender<Outcome<N>>,
+        at: CompletionSender<CallOutcome<N>>,
         outcome: StepOutcome<N>,
     ) -> Self
         requires { IsReplyTo (ticket_in accepted) outcome }
@@ -130,7 +133,7 @@ impl<N: Named> ReadyReply<N> {
     }
 
     /// Makes the refusal of a caller whose call no node has accepted.
-    pub(crate) fn refused(at: CompletionSender<Outcome<N>>, refusal: CallRefusal<N>) -> Self
+    pub(crate) fn refused(at: CompletionSender<CallOutcome<N>>, refusal: CallRefusal<N>) -> Self
         ensures { result ≡ record { to = record { ticket = None; token = at }; outcome = Err refusal } }
     {
         ReadyReply {

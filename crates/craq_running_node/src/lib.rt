@@ -16,13 +16,13 @@ mod steps;
 
 pub use asked::{Asked, Destination, OwnAsk, QueuedAsk, refuse_own};
 pub use call_refusal::CallRefusal;
-pub use callers::{Outcome, OwnReply, PendingCaller};
+pub use callers::{CallOutcome, OwnReply, PendingCaller};
 pub use gate::{Gate, OpenGate, Work};
 pub use inbox::{Delivery, Entrances, Inbox, Waiting, open_inbox};
 pub use losses::Losses;
 pub use node::{Removed, Route, RunningNode};
 pub use replies::{Replies, refuse_callers};
 pub use steps::{
-    Arrival, SeatedNode, dismiss, entries_of, lone_entry_of, messages_of, messages_of_book,
-    owed_by, refuse_asked, take_event, take_own, take_queued,
+    ArrivedEvent, SeatedNode, dismiss, entries_of, lone_entry_of, messages_of, messages_of_book,
+    owed_by, refuse_asked, take_event, take_own_ask, take_queued_ask,
 };

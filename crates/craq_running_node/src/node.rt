@@ -1,5 +1,5 @@
-//! `RunningNode`: a node as its workers and callers share it: its locked seat, its inbox and the
-//! state of its life; and `Route`, the routing entry of a node.
+//! `RunningNode`: a node as its workers and callers share it: its desk and callers under a lock
+//! (`SeatedNode`), its inbox and the state of its life; and `Route`, the routing entry of a node.
 ghost use Rattle.std.specs.Prelude.{◌≡◌};
 ghost use Rattle.craq_running_node.specs.Routes.{retired};
 

@@ -100,7 +100,8 @@ impl<N: Named> Replies<N> {
         }
     }
 
-    /// Sends all replies, in order.
+    /// Sends all replies, in order, each into its caller's completion queue
+    /// (`CompletionSender::tell`).
     pub fn tell<R: Wait>(self, rt: &R) {
         let Replies { waiting, short: _ } = self;
         let mut left = waiting.into_iter();

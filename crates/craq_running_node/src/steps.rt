@@ -18,7 +18,7 @@ ghost use Rattle.craq_running_node.specs.Replies.{IsReplyTo, Keeps, RefusesAsked
 
 use crate::asked::{Asked, Destination, OwnAsk, QueuedAsk};
 use crate::call_refusal::CallRefusal;
-use crate::callers::{Outcome, OwnReply, PendingCaller, ReadyReply, joined};
+use crate::callers::{CallOutcome, OwnReply, PendingCaller, ReadyReply, joined};
 use crate::losses::Losses;
 use crate::replies::Replies;
 use craq_completions::CompletionSender;
@@ -36,7 +36,8 @@ use std::alloc::{AllocError, AllocFailed, Global};
 use std::mem;
 use std::sync::{Arc, Wait};
 
-/// The content of a node's lock: its desk, and its callers, each of which waits for a completion. A
+/// The content of a node's lock: its desk, which keeps the pending calls, and its callers, which
+/// keep the completion queue of each. A
 /// thread that takes the lock knows that the node is the replay of its entries in the store's
 /// history, and that each caller's call was accepted there.
 #[derive(Drop)]
@@ -47,7 +48,7 @@ pub struct SeatedNode<C: Core + Named> {
 
 /// A message that was sent, or a tick, that arrives at a node.
 #[derive(Drop)]
-pub struct Arrival<N: Named> {
+pub struct ArrivedEvent<N: Named> {
     pub event: Event,
     pub token: StoreToken<N>,
 }
@@ -57,7 +58,7 @@ type OwnReceipt<N> = Result<Option<StepReceipt<N>>, CallRefusal<N>>;
 
 /// The outcome of a request that a node accepted: its call, and the reply if there is one at once.
 #[derive(Drop)]
-struct Taken<N: Named> {
+struct AcceptedRequest<N: Named> {
     accepted: Option<AcceptedCall<N>>,
     reply: OwnReceipt<N>,
 }
@@ -326,7 +327,7 @@ pub fn take_event<R: Wait, C: Core + Named>(
     rt: &R,
     history: &StoreHistory<C>,
     seated: &mut SeatedNode<C>,
-    arrival: Arrival<C>,
+    arrival: ArrivedEvent<C>,
     replies: &mut Replies<C>,
 ) -> bool
     requires arrives { CanArrive arrival.event }
@@ -338,7 +339,7 @@ pub fn take_event<R: Wait, C: Core + Named>(
 {
     let alloc = replies.allocator();
     let name = seated.desk.cell().opening().name;
-    let Arrival { event, token } = arrival;
+    let ArrivedEvent { event, token } = arrival;
     let cause = Cause {
         pass: Pass::start(),
         origin: Origin::sent(token),
@@ -372,7 +373,7 @@ fn take_ask<R: Wait, C: Core + Named>(
     seated: &mut SeatedNode<C>,
     asked: (MadeAsk<C>, Pass),
     replies: &mut Replies<C>,
-) -> Result<Taken<C>, CallRefusal<C>>
+) -> Result<AcceptedRequest<C>, CallRefusal<C>>
     ensures own { IfOk result (λ taken. IfSome (in_hand taken.reply) (λ reply. IsReplyTo (ticket_in taken.accepted) reply)) }
     ensures taken { IfOk result (λ taken. (calls : Result (Vec Called Global) AllocError) × TellsCallers C.represents seated.old seated.new.desk seated.new.callers.items (Event.Ask asked.0.ask) asked.1 (ticket_in taken.accepted) calls replies.old replies.new × (in_hand taken.reply ≡ said_to (ticket_in taken.accepted) calls)) }
     ensures ticket { IfOk result (λ taken. ticket_in taken.accepted ≡ ticket_of seated.new.desk.cell.last) }
@@ -408,14 +409,14 @@ fn take_ask<R: Wait, C: Core + Named>(
                 ticket: last_ticket(seated.desk.cell().last()),
             };
             let reply = finish(rt, seated, calls, &mut answering, replies);
-            Ok(Taken { accepted, reply })
+            Ok(AcceptedRequest { accepted, reply })
         }
     }
 }
 
 /// Takes the step of a queued request. Its caller waits from then on, or gets a reply at once.
 /// Returns whether the step was taken.
-pub fn take_queued<R: Wait, C: Core + Named>(
+pub fn take_queued_ask<R: Wait, C: Core + Named>(
     rt: &R,
     history: &StoreHistory<C>,
     seated: &mut SeatedNode<C>,
@@ -451,14 +452,14 @@ pub fn refuse_asked<R: Wait, N: Named>(rt: &R, asked: QueuedAsk<N>, replies: &mu
 fn settle<R: Wait, N: Named>(
     rt: &R,
     callers: &mut TicketQueue<PendingCaller<N>>,
-    taken: Taken<N>,
-    at: CompletionSender<Outcome<N>>,
+    taken: AcceptedRequest<N>,
+    at: CompletionSender<CallOutcome<N>>,
     replies: &mut Replies<N>,
 )
     requires { IfSome (in_hand taken.reply) (λ reply. IsReplyTo (ticket_in taken.accepted) reply) }
     ensures { Settles at (ticket_in taken.accepted) (in_hand taken.reply) callers.old.items callers.new.items replies.old replies.new }
 {
-    let Taken { accepted, reply } = taken;
+    let AcceptedRequest { accepted, reply } = taken;
     match reply {
         Err(refusal) => replies.add(rt, ReadyReply::new(accepted, at, Err(refusal))),
         Ok(Some(receipt)) => replies.add(rt, ReadyReply::new(accepted, at, Ok(receipt))),
@@ -472,7 +473,7 @@ fn wait_at<R: Wait, N: Named>(
     rt: &R,
     callers: &mut TicketQueue<PendingCaller<N>>,
     accepted: Option<AcceptedCall<N>>,
-    at: CompletionSender<Outcome<N>>,
+    at: CompletionSender<CallOutcome<N>>,
     replies: &mut Replies<N>,
 )
     ensures { Waits at (ticket_in accepted) callers.old.items callers.new.items replies.old replies.new }
@@ -494,7 +495,7 @@ fn wait_at<R: Wait, N: Named>(
 
 /// Takes the step of the caller's own request. Returns the reply in hand; the refusal outside is of
 /// a request whose step was not taken.
-pub fn take_own<R: Wait, C: Core + Named>(
+pub fn take_own_ask<R: Wait, C: Core + Named>(
     rt: &R,
     history: &StoreHistory<C>,
     seated: &mut SeatedNode<C>,
@@ -505,7 +506,7 @@ pub fn take_own<R: Wait, C: Core + Named>(
     ensures refused { IfErr result (λ e. RefusesOwn C.represents seated.old seated.new own.entry.made.name own.entry.made.ask own.entry.pass (Some (Err e)) replies.old replies.new) }
 {
     let Asked { made, pass, at } = own;
-    let Taken { accepted, reply } = take_ask(rt, history, seated, (made, pass), replies)?;
+    let AcceptedRequest { accepted, reply } = take_ask(rt, history, seated, (made, pass), replies)?;
     match reply {
         Err(refusal) => {
             drop(accepted);

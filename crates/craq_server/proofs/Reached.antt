@@ -2,7 +2,7 @@
 use Rattle.std.proofs.Common.{◌≡◌, ◌≢◌, ◌∙◌, ℕ, List, [], ◌∷◌, ◌++◌, None, Some, Result, Ok, Err, inl, inr, refl, sym, ap, subst, length}
 use Rattle.std.proofs.lemmas.List.{append-nil}
 use Rattle.craq_names.specs.declared.refusal.Refusal.{Refusal}
-use Rattle.craq_completions.specs.declared.token.Token.{Token}
+use Rattle.craq_completions.specs.declared.token.CallToken.{CallToken}
 use Rattle.craq_frames.specs.declared.ask.ClientMessage.{ClientMessage}
 use Rattle.craq_frames.specs.declared.answer.ClientReply.{ClientReply}
 use Rattle.craq_front.specs.declared.protocol_codec.ProtocolCodec.{ProtocolCodec}
@@ -167,7 +167,7 @@ module _ (leap : ℕ) (first : Connected) (read written : List ℕ) where
 
   -- so it is after some steps
   taken : (tells : List ℕ → Type 0) (refuses : Refusing) (key before : ℕ) (old : ConnectionState Connected) (count : ℕ) (new : ConnectionState Connected) (after : ℕ)
-      → TakesSteps tells refuses (under_key (called_by (λ (token : Token). Submits leap) FinishesCall) key) old before count new after
+      → TakesSteps tells refuses (under_key (called_by (λ (token : CallToken). Submits leap) FinishesCall) key) old before count new after
       → Stood leap first read written old.phase old.codec old.session → Stood leap first read written new.phase new.codec new.session
   taken tells refuses key before old _ _ _ none stood = stood
   taken tells refuses key before old _ _ _ (step earlier mid now number stepped until no_call h same) stood =
@@ -215,7 +215,7 @@ module _ (leap : ℕ) (first : Connected) (read written : List ℕ) where
   }
 
 module _ (leap : ℕ) (tells : List ℕ → Type 0) (refuses : Refusing) (first : ConnectionState Connected) where
-  stood_reached : (read written : List ℕ) (state : ConnectionState Connected) → Reaches tells refuses (called_by (λ (token : Token). Submits leap) FinishesCall) FinishesCall first read written state
+  stood_reached : (read written : List ℕ) (state : ConnectionState Connected) → Reaches tells refuses (called_by (λ (token : CallToken). Submits leap) FinishesCall) FinishesCall first read written state
       → Stood leap first.session read written state.phase state.codec state.session
   stood_reached _ _ _ (begins holds idle) = record {
     turns = [];
@@ -247,7 +247,7 @@ module _ (leap : ℕ) (tells : List ℕ → Type 0) (refuses : Refusing) (first 
   since_rests (phases.Asks m) last now same _ = same
   since_rests (phases.Over why) last now same _ = same
 
-  pub reached_witnessed : (read written : List ℕ) (state : ConnectionState Connected) → Reaches tells refuses (called_by (λ (token : Token). Submits leap) FinishesCall) FinishesCall first read written state
+  pub reached_witnessed : (read written : List ℕ) (state : ConnectionState Connected) → Reaches tells refuses (called_by (λ (token : CallToken). Submits leap) FinishesCall) FinishesCall first read written state
       → IsWitnessedConnection leap first.session read written state
   reached_witnessed read written state reached =
       let stood = stood_reached read written state reached in
@@ -273,6 +273,6 @@ reachable_witnessed store leap state (first, fresh, read, written, reached) = (
 
 -- a connection that came with a new session
 pub served_reachable : (store : Stored) (leap : ℕ) (session : Connected) (state : ConnectionState Connected) → IsNewSession session
-    → IsReachable (λ (s : Connected). s ≡ session) (TellsStatus store) (λ node pass ask e. RefusesServed (length store.names) node ask e) (called_by (λ (token : Token). Submits leap) FinishesCall) FinishesCall state
+    → IsReachable (λ (s : Connected). s ≡ session) (TellsStatus store) (λ node pass ask e. RefusesServed (length store.names) node ask e) (called_by (λ (token : CallToken). Submits leap) FinishesCall) FinishesCall state
     → IsReachableAt store leap state
 served_reachable store leap session state fresh (first, same, read, written, reached) = (first, subst IsNewSession (sym same) fresh, read, written, reached)

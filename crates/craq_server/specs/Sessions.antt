@@ -12,7 +12,7 @@ use Rattle.craq_frames.specs.declared.ask.ClientMessage.TheVariants as messages
 use Rattle.craq_frames.specs.declared.answer.ClientReply.{ClientReply}
 use Rattle.craq_frames.specs.declared.answer.ClientReply.TheVariants as replies
 use Rattle.craq_front.specs.Talk.{Exchanges}
-use Rattle.craq_completions.specs.declared.token.Token.{Token}
+use Rattle.craq_completions.specs.declared.token.CallToken.{CallToken}
 use Rattle.craq_seat.specs.Calls.{Called}
 use Rattle.craq_session.specs.Asking.{called_by}
 use Rattle.craq_session.specs.declared.call_request.CallRequest.{CallRequest}
@@ -149,7 +149,7 @@ IsWitnessedTurn most_leap old message (replies.Status text) new = new ≡ old
 -- a new connection of an event loop reaches the state, at a server of this store with this bound on passes
 abbrev pub IsReachableAt : Stored → ℕ → ConnectionState Connected → Type 0
 IsReachableAt store most_leap state =
-    IsReachable IsNewSession (TellsStatus store) (λ node pass ask e. RefusesServed (length store.names) node ask e) (called_by (λ (token : Token). Submits most_leap) FinishesCall) FinishesCall state
+    IsReachable IsNewSession (TellsStatus store) (λ node pass ask e. RefusesServed (length store.names) node ask e) (called_by (λ (token : CallToken). Submits most_leap) FinishesCall) FinishesCall state
 
 -- these turns are witnessed one after another, from the first session to the last
 abbrev pub AreWitnessed : ℕ → Connected → Exchanges → Connected → Type 0

@@ -1,11 +1,11 @@
-//! `accept`: serves the connections of a listener to a store, each on a thread of its own.
-//! `accept_with` serves them as a `Serving` says, also by a few threads (`io_threads`).
+//! `Server`: takes in the connections of a listener to a store. `accept` gives each a thread of its
+//! own; `accept_with` serves them as a `Serving` says, also by a few threads (`io_threads`).
 ghost use Rattle.std.specs.Prelude.{◌≡◌, ◌⊎◌, [], false, IfErr, IfOk};
 ghost use Rattle.craq_server.specs.Sessions.{IsNewSession};
 
 use crate::bulk_limit::BulkLimit;
 use crate::connections::Connections;
-use crate::counters::Share;
+use crate::counters::ThreadCounts;
 use crate::incoming::Incoming;
 use crate::io_threads::{EventLoops, serve_by_threads};
 use crate::listening::{Attempt, try_accept, wait_for_connection};
@@ -16,7 +16,7 @@ use crate::served_store::{ServedStore, StoreOutcome};
 use crate::socket_options::prepare;
 use crate::store_session::StoreSession;
 use craq_completions::CompletionQueue;
-use craq_event_loop::{Arrival, ClientStream, serve_one};
+use craq_event_loop::{ClientStream, NewConnection, serve_one};
 use craq_names::Refusal;
 use craq_node::Core;
 use craq_seat::CallReceipt;
@@ -75,7 +75,7 @@ pub struct ServeReport {
 
 /// The outcome of taking connections.
 #[derive(Clone, Copy, Debug)]
-pub(crate) struct Taken {
+pub(crate) struct Accepted {
     /// True where some connection was ended at once because the process was out of memory or
     /// threads.
     pub(crate) had_failures: bool,
@@ -266,7 +266,7 @@ where
     pub(crate) fn backend(
         &self,
         completions: CompletionQueue<StoreOutcome<C>>,
-        share: Arc<Share>,
+        share: Arc<ThreadCounts>,
     ) -> Result<ServedStore<'_, R, C, G>, AllocError> {
         Ok(ServedStore {
             rt: self.rt,
@@ -304,7 +304,7 @@ where
         let receipts = self.new_receipts()?;
         let share = self.connections.counters.share(slot)?;
         let traffic = Arc::try_clone(&share.traffic)?;
-        let arrival = Arrival {
+        let arrival = NewConnection {
             stream: ClientStream { stream, traffic },
             session: self.open_session()?,
             slot,
@@ -330,7 +330,7 @@ where
 
     /// Takes in as many connections as `Serving` says, until the server is to end or its listener
     /// has failed.
-    fn take_all<'s, E>(&'s self, scope: &Scope<'s, E>, listener: &TcpListener) -> Taken {
+    fn take_all<'s, E>(&'s self, scope: &Scope<'s, E>, listener: &TcpListener) -> Accepted {
         let mut left = self.serving.connections;
         let mut had_failures = false;
         for _ in self.rt.forever() {
@@ -341,7 +341,7 @@ where
                 Next::End => break,
                 Next::ListenerFailed => {
                     self.end_open();
-                    return Taken {
+                    return Accepted {
                         had_failures,
                         listener_failed: true,
                     };
@@ -352,14 +352,14 @@ where
             }
             left = left.saturating_sub(1);
         }
-        Taken {
+        Accepted {
             had_failures,
             listener_failed: false,
         }
     }
 
     /// Takes connections in and waits until all have ended.
-    fn serve_all(&self, listener: &TcpListener) -> Taken {
+    fn serve_all(&self, listener: &TcpListener) -> Accepted {
         self.connections.begin(&self.rt);
         thread::scope(thread::scope_env(), &self.rt, |scope| {
             self.take_all(scope, listener)
@@ -417,7 +417,7 @@ where
     } = event_loops;
     let server = Server::new(rt, alloc, store, serving, connections);
     let taken = if listener.set_nonblocking(true).is_err() {
-        Ok(Taken {
+        Ok(Accepted {
             had_failures: false,
             listener_failed: true,
         })
@@ -427,7 +427,7 @@ where
         serve_by_threads(&server, listener, all)
     };
     connections.finish(&rt);
-    let Taken {
+    let Accepted {
         had_failures,
         listener_failed,
     } = taken?;

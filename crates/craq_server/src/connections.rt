@@ -8,7 +8,7 @@ use std::sync::{Arc, Condvar, Mutex, Wait};
 
 /// The progress of a server.
 #[derive(Clone, Copy, Debug, Drop)]
-struct Progress {
+struct ServerProgress {
     /// True where it has all that it needs and takes connections in.
     has_begun: bool,
     /// True where it is to end.
@@ -23,7 +23,7 @@ struct Progress {
 #[derive(Drop)]
 pub struct Connections {
     /// The progress of the server.
-    progress: Mutex<Progress>,
+    progress: Mutex<ServerProgress>,
     /// Notified at each progress.
     changed: Condvar,
     /// The open connections, each at its place.
@@ -40,7 +40,7 @@ impl Connections {
     /// out of memory.
     pub fn new(alloc: Global, most: u32) -> Result<Self, AllocError> {
         Ok(Connections {
-            progress: Mutex::new(Progress {
+            progress: Mutex::new(ServerProgress {
                 has_begun: false,
                 is_ending: false,
                 has_timed_out: false,

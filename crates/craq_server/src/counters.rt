@@ -16,7 +16,7 @@ pub const REFUSALS: usize = 28;
 
 /// The counts of one thread.
 #[derive(Drop)]
-pub(crate) struct Share {
+pub(crate) struct ThreadCounts {
     updates: AtomicU64,
     reads: AtomicU64,
     statuses: AtomicU64,
@@ -25,14 +25,14 @@ pub(crate) struct Share {
     pub(crate) traffic: Arc<Traffic>,
 }
 
-impl Share {
+impl ThreadCounts {
     /// Makes counts of nothing. Fails only when out of memory.
     fn new(alloc: Global) -> Result<Self, AllocError> {
         let mut refused = Vec::new(alloc);
         for _ in 0..REFUSALS {
             refused.push(AtomicU64::new(0))?;
         }
-        Ok(Share {
+        Ok(ThreadCounts {
             updates: AtomicU64::new(0),
             reads: AtomicU64::new(0),
             statuses: AtomicU64::new(0),
@@ -109,7 +109,7 @@ pub struct Counts {
 /// The counters of a server.
 #[derive(Drop)]
 pub(crate) struct Counters {
-    shares: Vec<Arc<Share>>,
+    shares: Vec<Arc<ThreadCounts>>,
     accepted: AtomicU64,
     ended: AtomicU64,
     turned_away: AtomicU64,
@@ -120,7 +120,7 @@ impl Counters {
     pub(crate) fn new(alloc: Global) -> Result<Self, AllocError> {
         let mut shares = Vec::new(alloc);
         for _ in 0..SHARES {
-            shares.push(Arc::new(alloc, Share::new(alloc)?)?)?;
+            shares.push(Arc::new(alloc, ThreadCounts::new(alloc)?)?)?;
         }
         Ok(Counters {
             shares,
@@ -131,7 +131,7 @@ impl Counters {
     }
 
     /// Returns the share of the thread of this index. Fails only when out of memory.
-    pub(crate) fn share(&self, index: usize) -> Result<Arc<Share>, AllocError> {
+    pub(crate) fn share(&self, index: usize) -> Result<Arc<ThreadCounts>, AllocError> {
         match self.shares.get(index % SHARES) {
             Some(share) => Arc::try_clone(share),
             None => Err(AllocError),

@@ -3,7 +3,7 @@
 ghost use Rattle.craq_server.specs.Sessions.{IsNewSession};
 
 use crate::store_session::StoreSession;
-use craq_event_loop::{Arrival, ClientStream};
+use craq_event_loop::{ClientStream, NewConnection};
 use craq_workers::Named;
 use std::marker::Model;
 
@@ -29,10 +29,10 @@ impl<C: Named> Model for Incoming<C> {
 
 impl<C: Named> Incoming<C> {
     /// Makes the value of a connection with a new session.
-    pub(crate) fn new(arrival: Arrival<StoreSession<C>>) -> Self
+    pub(crate) fn new(arrival: NewConnection<StoreSession<C>>) -> Self
         requires { IsNewSession arrival.session }
     {
-        let Arrival {
+        let NewConnection {
             stream,
             session,
             slot,
@@ -47,7 +47,7 @@ impl<C: Named> Incoming<C> {
     }
 
     /// Returns the connection, for the thread.
-    pub(crate) fn into_arrival(self) -> Arrival<StoreSession<C>>
+    pub(crate) fn into_arrival(self) -> NewConnection<StoreSession<C>>
         ensures { IsNewSession result.session }
     {
         let Incoming {
@@ -56,7 +56,7 @@ impl<C: Named> Incoming<C> {
             slot,
             receipts,
         } = self;
-        Arrival {
+        NewConnection {
             stream,
             session,
             slot,

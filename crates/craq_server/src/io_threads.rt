@@ -1,15 +1,15 @@
-//! `EventLoops`: the event loops of a server, made before serving starts. And serving by a few
-//! threads, an event loop each; called by `accepting`.
+//! `EventLoops`: the event loops of a server, made before serving starts. `IoContext`: the backend
+//! of one of them. And serving by a few threads, an event loop each; called by `accepting`.
 ghost use Rattle.std.specs.Prelude.{◌≡◌, ◌==◌, [], IfOk, IfSome, length, if◌then◌else◌};
 ghost use Rattle.craq_server.specs.Sessions.{IsNewSession, IsReachableAt};
 
-use crate::accepting::{Next, Server, Serving, Taken};
+use crate::accepting::{Accepted, Next, Server, Serving};
 use crate::incoming::Incoming;
 use crate::runtime::ServerRuntime;
 use crate::served_store::{ServedStore, StoreOutcome};
 use crate::store_session::StoreSession;
 use craq_completions::{Completion, CompletionQueue};
-use craq_event_loop::{Arrival, ClientStream, EventLoop, LoopBackend, LoopSettings};
+use craq_event_loop::{ClientStream, EventLoop, LoopBackend, LoopSettings, NewConnection};
 use craq_frames::Text;
 use craq_names::Refusal;
 use craq_node::Core;
@@ -23,7 +23,7 @@ use std::sync::{Arc, Mutex, Wait};
 use std::thread;
 use std::thread::Scope;
 
-/// The backend of one event loop.
+/// The backend of one event loop. It passes calls on to its `ServedStore`.
 #[derive(Drop)]
 struct IoContext<'s, 'a, R: Wait, C: Core + Named, G: Gate> {
     server: &'s Server<'a, R, C, G>,
@@ -125,7 +125,7 @@ where
         self.backend.store.run_queued(&self.server.rt);
     }
 
-    fn arrival(&self) -> Option<Arrival<StoreSession<C>>> {
+    fn arrival(&self) -> Option<NewConnection<StoreSession<C>>> {
         let incoming = self.inbox.lock(&self.server.rt).pop()?;
         Some(incoming.into_arrival())
     }
@@ -188,12 +188,12 @@ where
         })
     }
 
-    /// Hands a connection to the thread, with a new session, and wakes it. Fails when out of memory,
-    /// and if 2^64 - 1 sessions were opened.
+    /// Hands a connection to the thread, with a new session, and wakes it. The event loop takes it
+    /// out of `inbox` by `arrival`. Fails when out of memory, and if 2^64 - 1 sessions were opened.
     fn hand(&self, stream: Arc<TcpStream>, slot: usize) -> Result<(), AllocError> {
         let receipts = self.server.new_receipts()?;
         let traffic = Arc::try_clone(&self.backend.share.traffic)?;
-        let arrival = Arrival {
+        let arrival = NewConnection {
             stream: ClientStream { stream, traffic },
             session: self.server.open_session()?,
             slot,
@@ -229,7 +229,7 @@ fn deal<'s, 'a, R, C, G>(
     server: &'s Server<'a, R, C, G>,
     contexts: &[IoContext<'s, 'a, R, C, G>],
     listener: &TcpListener,
-) -> Taken
+) -> Accepted
 where
     R: ServerRuntime,
     C: Core + Named + Send + 'static,
@@ -248,7 +248,7 @@ where
             }
             (Next::ListenerFailed, _) => {
                 server.end_open();
-                return Taken {
+                return Accepted {
                     had_failures,
                     listener_failed: true,
                 };
@@ -261,7 +261,7 @@ where
         }
         left = left.saturating_sub(1);
     }
-    Taken {
+    Accepted {
         had_failures,
         listener_failed: false,
     }
@@ -381,7 +381,7 @@ where
         &'e self,
         scope: &Scope<'e, E>,
         listener: &TcpListener,
-    ) -> Result<Taken, AllocError> {
+    ) -> Result<Accepted, AllocError> {
         let mut taken = Err(AllocError);
         if self.begin_all(scope) {
             self.server.connections.begin(&self.server.rt);
@@ -401,7 +401,7 @@ where
     }
 
     /// Serves as `run_threads` does, and waits until all threads have ended.
-    fn serve_all(&self, listener: &TcpListener) -> Result<Taken, AllocError> {
+    fn serve_all(&self, listener: &TcpListener) -> Result<Accepted, AllocError> {
         thread::scope(thread::scope_env(), &self.server.rt, |scope| {
             self.run_threads(scope, listener)
         })
@@ -414,7 +414,7 @@ pub(crate) fn serve_by_threads<'a, R, C, G>(
     server: &Server<'a, R, C, G>,
     listener: &TcpListener,
     event_loops: Vec<EventLoop>,
-) -> Result<Taken, AllocError>
+) -> Result<Accepted, AllocError>
 where
     R: ServerRuntime,
     C: Core + Named + Send + 'static,
@@ -425,11 +425,11 @@ where
         all.push(IoContext::new(server, event_loop, index)?)?;
     }
     let contexts = IoContexts { server, all };
-    let Taken {
+    let Accepted {
         had_failures,
         listener_failed,
     } = contexts.serve_all(listener)?;
-    Ok(Taken {
+    Ok(Accepted {
         had_failures: had_failures || contexts.had_failures(),
         listener_failed,
     })

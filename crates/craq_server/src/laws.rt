@@ -1,6 +1,6 @@
 //! A law: the replies of connections stand in the store's history.
 ghost use Rattle.std.specs.Prelude.{ℕ, List, length};
-ghost use Rattle.craq_completions.specs.declared.token.Token.{Token};
+ghost use Rattle.craq_completions.specs.declared.token.CallToken.{CallToken};
 ghost use Rattle.craq_session.specs.Asking.{called_by};
 ghost use Rattle.craq_session.specs.declared.connection_state.ConnectionState.{ConnectionState};
 ghost use Rattle.craq_event_loop.specs.Reaching.{Reaches};
@@ -16,6 +16,6 @@ ghost use Rattle.craq_server.specs.Status.{TellsStatus};
 /// connection on a thread of its own (`serve_one`). It has no body: the contract is the law.
 pub(crate) fn connections_are_witnessed()
     ensures { (store : Stored) (most_leap : ℕ) (read written : List ℕ) (first state : ConnectionState Connected)
-        → Reaches (TellsStatus store) (λ node pass ask e. RefusesServed (length store.names) node ask e) (called_by (λ (token : Token). Submits most_leap) FinishesCall) FinishesCall first read written state
+        → Reaches (TellsStatus store) (λ node pass ask e. RefusesServed (length store.names) node ask e) (called_by (λ (token : CallToken). Submits most_leap) FinishesCall) FinishesCall first read written state
         → IsWitnessedConnection most_leap first.session read written state }
 {}

@@ -9,7 +9,7 @@ ghost use Rattle.craq_server.specs.Sessions.{Connected, Finishes, IsNewSession, 
 ghost use Rattle.craq_server.specs.Status.{TellsStatus};
 
 use crate::bulk_limit::BulkLimit;
-use crate::counters::Share;
+use crate::counters::ThreadCounts;
 use crate::logging::Log;
 use crate::passes::Passes;
 use crate::status::status_text;
@@ -28,7 +28,7 @@ use std::sync::{Arc, Wait};
 
 /// The outcome of a call at the store: its reply, with what shows that a node of the store gave it,
 /// or the refusal.
-pub(crate) type StoreOutcome<C> = craq_workers::Outcome<C>;
+pub(crate) type StoreOutcome<C> = craq_workers::CallOutcome<C>;
 
 /// Returns the part of a chain that a thread of this load may run for a request.
 fn reach_of(load: Load) -> Reach
@@ -57,7 +57,7 @@ pub(crate) struct ServedStore<'a, R: Wait, C: Core + Named, G: Gate> {
     /// The completions of the calls of this thread.
     pub(crate) completions: Arc<CompletionQueue<StoreOutcome<C>>>,
     /// The counts of this thread.
-    pub(crate) share: Arc<Share>,
+    pub(crate) share: Arc<ThreadCounts>,
 }
 
 impl<'a, R, C, G> ServedStore<'a, R, C, G>

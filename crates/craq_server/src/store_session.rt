@@ -10,7 +10,7 @@ use craq_names::{NodeName, Pass, Refusal};
 use craq_node::Core;
 use craq_seat::CallReceipt;
 use craq_workers::{
-    AnsweredCall, CallId, CallRefusal, Gate, MadeAsk, Named, Outcome, Session, Store,
+    AnsweredCall, CallId, CallOutcome, CallRefusal, Gate, MadeAsk, Named, Session, Store,
 };
 use std::marker::Model;
 
@@ -72,7 +72,7 @@ impl<C: Core + Named> StoreSession<C> {
         store: &Store<C, G>,
         node: &NodeName,
         pass: Pass,
-        reply: Outcome<C>,
+        reply: CallOutcome<C>,
     ) -> Result<CallReceipt, Refusal>
         ensures { Finishes self.old node.now pass reply result self.new }
     {

@@ -8,7 +8,7 @@ use Rattle.craq_frames.specs.declared.answer.ClientReply.{ClientReply}
 use Rattle.craq_frames.specs.Frame.{frame}
 use Rattle.craq_front.specs.declared.protocol_codec.Asking.{Asking}
 use Rattle.craq_front.specs.declared.protocol_codec.ProtocolCodec.{ProtocolCodec}
-use Rattle.craq_front.specs.declared.protocol_codec.Step.TheVariants.{Ask, Refused, Nothing}
+use Rattle.craq_front.specs.declared.protocol_codec.CodecEvent.TheVariants.{Ask, Refused, Nothing}
 use Rattle.craq_front.specs.Serving.{Served, Conversation, idle, begun, neither}
 use Rattle.craq_front.specs.Steps.{Advances, Follows}
 use Rattle.craq_front.specs.Talk.{Exchanges, next_turn, UnderWay, Stands, between, within}

@@ -1,6 +1,6 @@
 -- A call that a session submits, and its outcome, which comes at once or later.
 use Rattle.std.specs.Prelude.{◌≡◌, Option, None, Some, Result, Ok, Err, IfErr}
-use Rattle.craq_completions.specs.declared.token.Token.{Token}
+use Rattle.craq_completions.specs.declared.token.CallToken.{CallToken}
 use Rattle.craq_names.specs.declared.refusal.Refusal.{Refusal}
 use Rattle.craq_model.specs.declared.ask.Ask.{Ask}
 use Rattle.craq_completions.specs.Refused.{CanRefuse}
@@ -54,7 +54,7 @@ abbrev pub Calling : Type 0 → Type 1
 Calling T = CallRequest → T → Option (Result Called Refusal) → T → Type 0
 
 -- the calls that a backend takes under a token
-abbrev pub called_by : {T R : Type 0} → (Token → Submitting T R) → Finishing T R → Token → Calling T
+abbrev pub called_by : {T R : Type 0} → (CallToken → Submitting T R) → Finishing T R → CallToken → Calling T
 called_by submits finishes token = IsSubmitted (submits token) finishes
 
 -- a call with this immediate outcome: it is refused as it may be; or it may be refused with whatever an ask of its kind may be

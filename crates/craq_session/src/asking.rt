@@ -4,7 +4,7 @@ ghost use Rattle.std.specs.Prelude.{◌≡◌, IfSome};
 ghost use Rattle.craq_session.specs.Asking.{IsRefusedAtOnce, IsReportable, IsSubmitted};
 
 use crate::{AsyncBackend, CallRequest};
-use craq_completions::{Outcome, Token};
+use craq_completions::{CallToken, Outcome};
 
 /// A call that a step made (`Stepped::Calls`). Outside of this crate only `ConnectionState::ask`
 /// takes one. It is neither `Copy` nor `Drop`, so each call that a step made is asked exactly once.
@@ -20,7 +20,7 @@ impl UnsentCall {
     }
 
     /// Turns the mark into the right to submit the call under this token.
-    pub(crate) fn make(self, token: Token, load: Load) -> SubmitToken
+    pub(crate) fn make(self, token: CallToken, load: Load) -> SubmitToken
         ensures { result.token ≡ token }
     {
         let UnsentCall { _made: () } = self;
@@ -37,7 +37,7 @@ impl UnsentCall {
 /// twice, and none that was not made, as long as the backend submits nothing without one.
 #[derive(Debug, Drop)]
 pub struct SubmitToken {
-    pub token: Token,
+    pub token: CallToken,
     pub load: Load,
     _made: (),
 }

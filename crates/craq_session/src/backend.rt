@@ -1,7 +1,7 @@
 //! `Backend`, `AsyncBackend` and `BlockingBackend`: what the connections of a server call; the
 //! served store is one.
 ghost use Rattle.std.specs.Prelude.{◌≡◌, ℕ, IfErr, IfOk, List, Option, Result};
-ghost use Rattle.craq_completions.specs.declared.token.Token.{Token};
+ghost use Rattle.craq_completions.specs.declared.token.CallToken.{CallToken};
 ghost use Rattle.craq_model.specs.declared.ask.Ask.{Ask};
 ghost use Rattle.craq_names.specs.declared.name.NodeName.{NodeName};
 ghost use Rattle.craq_names.specs.declared.refusal.Refusal.{Refusal};
@@ -47,7 +47,7 @@ pub trait AsyncBackend: Backend {
     /// The calls that were submitted: the session before, the token of its completion, the request,
     /// its immediate reply, if there was one, or the refusal of a call that was not made, and the
     /// session after.
-    ghost submits: { Self → Token → Self.Session → CallRequest → Option (Result Self.Reply Refusal) → Self.Session → Type 0 };
+    ghost submits: { Self → CallToken → Self.Session → CallRequest → Option (Result Self.Reply Refusal) → Self.Session → Type 0 };
 
     /// The calls that were finished: the session before, the request, the reply, the outcome, and
     /// the session after.

@@ -7,7 +7,7 @@ ghost use Rattle.craq_session.specs.ConnectionStates.{KeepsRoom};
 use crate::asking::submit_call;
 use crate::phases::{advance, answered};
 use crate::{AsyncBackend, Backend, CallRequest, DoorCalls, Load, ReceiptPolicy, UnsentCall};
-use craq_completions::{Outcome, Token};
+use craq_completions::{CallToken, Outcome};
 use craq_frames::ClientMessage;
 use craq_front::ProtocolCodec;
 use craq_names::Refusal;
@@ -31,7 +31,7 @@ pub(crate) enum Phase {
     Idle,
     /// This request is to be asked.
     Asks(ClientMessage),
-    /// This call is under way.
+    /// This call is to be made, or is under way.
     Waits(CallRequest),
     /// Nothing is read or asked any more.
     Over(Ending),
@@ -49,8 +49,7 @@ fn put(place: &mut Phase, phase: Phase)
 pub enum Stepped {
     /// There may be another step to take.
     Goes,
-    /// The call of `request` is to be made, by `ask`, and its outcome to be given back by
-    /// `answer`.
+    /// A call is to be made, by `ask`, and its outcome to be given back by `answer`.
     Calls(UnsentCall),
     /// Less than a frame has come: more bytes are needed.
     Starved,
@@ -116,8 +115,8 @@ impl<T> ConnectionState<T> {
         }
     }
 
-    /// Takes bytes that came. The first request of the payload in front may be found at once; else
-    /// the next frame is looked for by a step. Fails only when out of memory; the bytes are lost
+    /// Takes bytes that came. Finds the first request of the payload in front at once in a read of
+    /// 1,024 bytes or more. Leaves a shorter read to `step`, which looks for the next frame. Fails only when out of memory; the bytes are lost
     /// then, and it is over.
     pub fn receive(&mut self, alloc: Global, bytes: &[u8]) -> Result<(), AllocError>
         requires { self.old.phase ≡ Phase.Idle }
@@ -188,7 +187,7 @@ impl<T> ConnectionState<T> {
         stepped
     }
 
-    /// Makes the call that is under way in the session, under this token. Returns its outcome at
+    /// Makes the call of the last step in the session, under this token. Returns its outcome at
     /// once, a receipt or a refusal; else `None`, and a completion with this token will come
     /// (`AsyncBackend::submit`). Where no call is under way none is made. `answer` takes the
     /// outcome.
@@ -197,7 +196,7 @@ impl<T> ConnectionState<T> {
         &mut self,
         unsent: UnsentCall,
         backend: &B,
-        token: Token,
+        token: CallToken,
         load: Load,
     ) -> Option<Outcome>
         ensures asked { IsAsked (B.refuses backend.now) (called_by (B.submits backend.now) (B.finishes backend.now) token) self.old.phase self.old.session result self.new.session }

@@ -9,7 +9,7 @@ use crate::call_request::{Begun, begin_turn, end_turn};
 use crate::connection_state::{Ending, Phase, Stepped};
 use crate::{Backend, DoorCalls, UnsentCall};
 use craq_frames::{ClientMessage, ClientReply};
-use craq_front::{ProtocolCodec, Step};
+use craq_front::{CodecEvent, ProtocolCodec};
 use craq_names::Refusal;
 use craq_seat::CallReceipt;
 use std::alloc::Global;
@@ -39,12 +39,12 @@ fn find<C: Backend>(alloc: Global, backend: &C, codec: &mut ProtocolCodec) -> (P
         return (Phase::Idle, Stepped::Stays);
     }
     match codec.next(alloc) {
-        Ok(Step::Ask(message)) => (Phase::Asks(message), Stepped::Goes),
-        Ok(Step::Refused) => {
+        Ok(CodecEvent::Ask(message)) => (Phase::Asks(message), Stepped::Goes),
+        Ok(CodecEvent::Refused) => {
             backend.unasked(&Refusal::BadFrame);
             (Phase::Idle, Stepped::Goes)
         }
-        Ok(Step::Nothing) => (Phase::Idle, Stepped::Starved),
+        Ok(CodecEvent::Nothing) => (Phase::Idle, Stepped::Starved),
         Err(refusal) => match refusal {
             Refusal::FrameTooLong => {
                 backend.unasked(&refusal);

@@ -15,13 +15,13 @@ ghost use Rattle.craq_workers.specs.Clients.{MakesOne, RefusesAsk};
 ghost use Rattle.craq_running_chain.specs.Missed.{IsMissed};
 ghost use Rattle.craq_workers.specs.Untaken.{IsGivenUp, IsUntaken, LeavesOpen};
 
-use craq_completions::{Completion, CompletionQueue, Token, answer_of_call, pass_after};
+use craq_completions::{CallToken, Completion, CompletionQueue, answer_of_call, pass_after};
 use craq_ghost_history::Named;
 use craq_model::{Answer, Ask};
 use craq_names::{Copied, NodeName, Pass, Refusal};
 use craq_node::Core;
 use craq_running_chain::{Reach, Shared, possible_refusal};
-use craq_running_node::{Asked, CallRefusal, Destination, Gate, Outcome};
+use craq_running_node::{Asked, CallOutcome, CallRefusal, Destination, Gate};
 use craq_seat::CallReceipt;
 use craq_store_history::CallId;
 use craq_store_parts::{AnsweredCall, MadeAsk, RefusalMoment, Session, StoreHistory, StoreToken};
@@ -30,7 +30,7 @@ use std::marker::Model;
 use std::sync::{Arc, Wait};
 
 /// The token of the one call for whose completion a client makes a queue.
-const ONLY: Token = Token {
+const ONLY: CallToken = CallToken {
     connection: 0,
     call: 0,
 };
@@ -246,7 +246,7 @@ impl<C: Core + Named, G: Gate> Client<C, G> {
     }
 
     /// Returns the reply to a request, with a new completion queue to wait at.
-    fn reply<R: Wait>(&self, rt: &R, ask: &Ask, made: MadeAsk<C>) -> Outcome<C>
+    fn reply<R: Wait>(&self, rt: &R, ask: &Ask, made: MadeAsk<C>) -> CallOutcome<C>
         requires ask { made.ask ≡ ask.now }
         requires there { made.name.chain < self.now.chains }
         ensures refused { IfErr result (λ e. CanRefuse ask.now e) }
@@ -267,8 +267,8 @@ impl<C: Core + Named, G: Gate> Client<C, G> {
         rt: &R,
         ask: &Ask,
         made: MadeAsk<C>,
-        completions: &Arc<CompletionQueue<Outcome<C>>>,
-    ) -> Outcome<C>
+        completions: &Arc<CompletionQueue<CallOutcome<C>>>,
+    ) -> CallOutcome<C>
         requires ask { made.ask ≡ ask.now }
         requires there { made.name.chain < self.now.chains }
         ensures refused { IfErr result (λ e. CanRefuse ask.now e) }
@@ -444,9 +444,9 @@ fn open_refusal(refusal: Refusal) -> Refusal
 /// `Closed`.
 fn wait_for_completion<R: Wait, N: Named>(
     rt: &R,
-    completions: &CompletionQueue<Outcome<N>>,
+    completions: &CompletionQueue<CallOutcome<N>>,
     ask: &Ask,
-) -> Outcome<N>
+) -> CallOutcome<N>
     ensures { IfErr result (λ e. CanRefuse ask.now e) }
 {
     let Some(completion) = completions.wait(rt) else {

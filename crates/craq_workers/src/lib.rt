@@ -15,11 +15,11 @@ mod opening;
 mod store;
 
 pub use client::Client;
-pub use craq_completions::{Completion, CompletionQueue, Token};
+pub use craq_completions::{CallToken, Completion, CompletionQueue};
 pub use craq_ghost_history::Named;
 pub use craq_running_chain::Reach;
 pub use craq_running_node::{
-    Asked, CallRefusal, Destination, Gate, OpenGate, Outcome, OwnReply, Work,
+    Asked, CallOutcome, CallRefusal, Destination, Gate, OpenGate, OwnReply, Work,
 };
 pub use craq_store_history::CallId;
 pub use craq_store_parts::{AnsweredCall, At, MadeAsk, Session};

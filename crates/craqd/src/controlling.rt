@@ -2,7 +2,7 @@
 ghost use Rattle.std.specs.Prelude.{◌≤◌, ◌^◌, length, IfOk};
 
 use crate::line_slot::{InputLine, LineSlot};
-use crate::readiness::{Member, is_last_ready, members_of};
+use crate::readiness::{MemberCondition, is_last_ready, members_of};
 use crate::serving::RunningStore;
 use craq_cli::{BadWord, ControlLine, UsageError, control_line};
 use craq_names::{ChainId, NodeName, Refusal};
@@ -26,19 +26,19 @@ const MOST_NAMES: usize = 65_536;
 
 /// A change of a chain's nodes.
 #[derive(Clone, Copy, Debug)]
-enum Change {
+enum MemberChange {
     Stopped,
     Removed,
     Joined,
 }
 
-impl Change {
+impl MemberChange {
     /// Returns the word for the change.
     const fn in_words(self) -> &'static str {
         match self {
-            Change::Stopped => "stopped",
-            Change::Removed => "removed",
-            Change::Joined => "joined",
+            MemberChange::Stopped => "stopped",
+            MemberChange::Removed => "removed",
+            MemberChange::Joined => "joined",
         }
     }
 }
@@ -56,7 +56,7 @@ fn tell_change<R: Eprint>(
     rt: &R,
     chains: &[ChainStatus],
     node: &NodeName,
-    change: Change,
+    change: MemberChange,
     refused: Option<Refusal>,
 ) {
     let (chain, id, word) = (chain_name(chains, node), node.node.get(), change.in_words());
@@ -114,7 +114,7 @@ fn stop_node<R: Eprint + Wait, N: Named + Send + 'static>(
     node: NodeName,
 ) {
     let stopped = store.stop(rt, node.chain, node.node);
-    tell_change(rt, chains, &node, Change::Stopped, stopped.err());
+    tell_change(rt, chains, &node, MemberChange::Stopped, stopped.err());
 }
 
 /// Returns the text about a chain: its epoch, and its members, the head first. Fails only when out
@@ -123,7 +123,7 @@ fn chain_text(
     alloc: Global,
     index: u16,
     chain: &ChainStatus,
-    members: &[Member],
+    members: &[MemberCondition],
 ) -> Result<String, AllocError> {
     let mut text = String::new(alloc);
     let (name, epoch) = (chain.name.as_str(), chain.config.epoch.get());
@@ -183,11 +183,11 @@ where
         ControlLine::ForceStop(node) => stop_node(&rt, store, chains, node),
         ControlLine::Remove(node) => {
             let removed = store.remove(&rt, node.chain, node.node);
-            tell_change(&rt, chains, &node, Change::Removed, removed.err());
+            tell_change(&rt, chains, &node, MemberChange::Removed, removed.err());
         }
         ControlLine::Join(node) => {
             let joined = store.join(rt, node.chain, node.node);
-            tell_change(&rt, chains, &node, Change::Joined, joined.err());
+            tell_change(&rt, chains, &node, MemberChange::Joined, joined.err());
         }
     }
     Ok(())

@@ -8,44 +8,44 @@ use std::io;
 
 /// A fault of the start, and its reason if one is known.
 #[derive(Drop)]
-pub struct Failure {
+pub struct StartFailure {
     pub fault: Fault,
     pub reason: Option<String>,
 }
 
-impl From<Fault> for Failure {
+impl From<Fault> for StartFailure {
     fn from(fault: Fault) -> Self {
-        Failure {
+        StartFailure {
             fault,
             reason: None,
         }
     }
 }
 
-impl From<AllocError> for Failure {
+impl From<AllocError> for StartFailure {
     fn from(_error: AllocError) -> Self {
-        Failure {
+        StartFailure {
             fault: Fault::Memory,
             reason: None,
         }
     }
 }
 
-impl<T: Drop> From<AllocFailed<T>> for Failure {
+impl<T: Drop> From<AllocFailed<T>> for StartFailure {
     fn from(_error: AllocFailed<T>) -> Self {
-        Failure {
+        StartFailure {
             fault: Fault::Memory,
             reason: None,
         }
     }
 }
 
-impl Failure {
+impl StartFailure {
     /// Makes the failure of a fault with this reason; without a reason when out of memory.
     pub fn new(fault: Fault, reason: Result<String, AllocError>) -> Self
         ensures { result.fault ≡ fault }
     {
-        Failure {
+        StartFailure {
             fault,
             reason: reason.ok(),
         }

@@ -5,8 +5,8 @@ ghost use Rattle.std.specs.Prelude.{◌≡◌};
 use crate::figures::{chain_figures, server_figures};
 use crate::serving::RunningStore;
 use craq_metrics::{
-    Asked, ChainFigures, HttpStatus, MediaType, Page, asked_of, first_unserved, health_text,
-    metrics_text, response, status_text,
+    ChainFigures, HttpRequest, HttpStatus, MediaType, Page, first_unserved, health_text,
+    metrics_text, request_in, response, status_text,
 };
 use craq_server::{Attempt, Connections, try_accept, wait_for_connection};
 use craq_workers::Named;
@@ -71,18 +71,18 @@ const fn is_passing(kind: ErrorKind) -> bool {
 }
 
 /// Returns the status of the response to a request.
-const fn status_of(asked: Asked) -> HttpStatus
-    ensures found { asked ≡ Asked.NotFound → result ≡ HttpStatus.NotFound }
-    ensures allowed { asked ≡ Asked.NotAllowed → result ≡ HttpStatus.NotAllowed }
-    ensures bad { asked ≡ Asked.Bad → result ≡ HttpStatus.BadRequest }
-    ensures large { asked ≡ Asked.Unfinished → result ≡ HttpStatus.TooLarge }
+const fn status_of(asked: HttpRequest) -> HttpStatus
+    ensures found { asked ≡ HttpRequest.NotFound → result ≡ HttpStatus.NotFound }
+    ensures allowed { asked ≡ HttpRequest.NotAllowed → result ≡ HttpStatus.NotAllowed }
+    ensures bad { asked ≡ HttpRequest.Bad → result ≡ HttpStatus.BadRequest }
+    ensures large { asked ≡ HttpRequest.Unfinished → result ≡ HttpStatus.TooLarge }
 {
     match asked {
-        Asked::Page(_) => HttpStatus::Ok,
-        Asked::NotFound => HttpStatus::NotFound,
-        Asked::NotAllowed => HttpStatus::NotAllowed,
-        Asked::Bad => HttpStatus::BadRequest,
-        Asked::Unfinished => HttpStatus::TooLarge,
+        HttpRequest::Page(_) => HttpStatus::Ok,
+        HttpRequest::NotFound => HttpStatus::NotFound,
+        HttpRequest::NotAllowed => HttpStatus::NotAllowed,
+        HttpRequest::Bad => HttpStatus::BadRequest,
+        HttpRequest::Unfinished => HttpStatus::TooLarge,
     }
 }
 
@@ -181,13 +181,18 @@ where
     }
 
     /// Reads a request. `None` if none came in time.
-    fn request(&self, over: &AtomicBool, began: &Instant, stream: &TcpStream) -> Option<Asked> {
+    fn request(
+        &self,
+        over: &AtomicBool,
+        began: &Instant,
+        stream: &TcpStream,
+    ) -> Option<HttpRequest> {
         let mut stream = stream;
         let mut buffer = [0u8; MOST_BYTES];
         let mut count = 0usize;
         for _ in 0..MOST_READS {
             if count >= MOST_BYTES {
-                return Some(Asked::Unfinished);
+                return Some(HttpRequest::Unfinished);
             }
             if self.is_late(over, began) {
                 return None;
@@ -195,8 +200,8 @@ where
             match stream.read(&mut buffer[count..]) {
                 Ok(n) if n > 0 => {
                     count = count.saturating_add(n).min(MOST_BYTES);
-                    let asked = asked_of(&buffer[..count]);
-                    if asked != Asked::Unfinished {
+                    let asked = request_in(&buffer[..count]);
+                    if asked != HttpRequest::Unfinished {
                         return Some(asked);
                     }
                 }
@@ -224,12 +229,12 @@ where
     }
 
     /// Returns the response to a request. Fails only when out of memory.
-    fn response_to(&self, asked: Asked) -> Result<String, AllocError> {
+    fn response_to(&self, asked: HttpRequest) -> Result<String, AllocError> {
         let (alloc, status) = (self.rt.alloc(), status_of(asked));
         match asked {
-            Asked::Page(page) => self.page(page),
-            Asked::NotFound => response(alloc, status, MediaType::Plain, NO_PAGE),
-            Asked::NotAllowed => response(alloc, status, MediaType::Plain, NOT_GET),
+            HttpRequest::Page(page) => self.page(page),
+            HttpRequest::NotFound => response(alloc, status, MediaType::Plain, NO_PAGE),
+            HttpRequest::NotAllowed => response(alloc, status, MediaType::Plain, NOT_GET),
             _ => response(alloc, status, MediaType::Plain, NO_REQUEST),
         }
     }

@@ -2,7 +2,7 @@
 ghost use Rattle.std.specs.Prelude.{◌≡◌, ◌⊎◌, List, IfErr, IfOk, IsUtf8};
 ghost use Rattle.craq_place.specs.Plan.{Chain, IsPlan, IsPlanText};
 
-use crate::failure::Failure;
+use crate::failure::StartFailure;
 use crate::fault::Fault;
 use crate::plan_faults::broken_rule;
 use craq_names::Refusal;
@@ -14,13 +14,15 @@ use std::rt::Files;
 use std::str::from_utf8;
 
 /// Reads the bytes of a file.
-fn bytes_of<R: AllocGlobal + Files>(rt: &R, path: &str) -> Result<Vec<u8>, Failure> {
+fn bytes_of<R: AllocGlobal + Files>(rt: &R, path: &str) -> Result<Vec<u8>, StartFailure> {
     match fs::read(rt, path) {
         Ok(bytes) => Ok(bytes),
-        Err(error) if error.kind() == ErrorKind::OutOfMemory => Err(Failure::from(Fault::Memory)),
+        Err(error) if error.kind() == ErrorKind::OutOfMemory => Err(StartFailure::from(
+            Fault::Memory,
+        )),
         Err(error) => {
             let reason = format!(in rt.alloc(); "{error}");
-            Err(Failure::new(Fault::CannotRead, reason))
+            Err(StartFailure::new(Fault::CannotRead, reason))
         }
     }
 }
@@ -44,7 +46,7 @@ fn plan_of_bytes(alloc: Global, bytes: &[u8]) -> Result<Plan, Fault>
 }
 
 /// Reads the plan of a file. The reason behind `BadPlan` is the first rule that the file breaks.
-pub fn plan_of<R: AllocGlobal + Files>(rt: &R, path: &str) -> Result<Plan, Failure>
+pub fn plan_of<R: AllocGlobal + Files>(rt: &R, path: &str) -> Result<Plan, StartFailure>
     ensures { IfOk result IsPlan }
 {
     let bytes = bytes_of(rt, path)?;
@@ -52,9 +54,9 @@ pub fn plan_of<R: AllocGlobal + Files>(rt: &R, path: &str) -> Result<Plan, Failu
     match plan_of_bytes(rt.alloc(), bytes) {
         Err(Fault::BadPlan) => {
             let reason = broken_rule(rt.alloc(), bytes);
-            Err(Failure::new(Fault::BadPlan, reason))
+            Err(StartFailure::new(Fault::BadPlan, reason))
         }
-        Err(fault) => Err(Failure::from(fault)),
+        Err(fault) => Err(StartFailure::from(fault)),
         Ok(read) => Ok(read),
     }
 }

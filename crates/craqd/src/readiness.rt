@@ -27,7 +27,7 @@ pub enum Condition {
 
 /// A member of a chain, and its condition.
 #[derive(Clone, Copy, Debug)]
-pub struct Member {
+pub struct MemberCondition {
     pub node: NodeId,
     pub condition: Condition,
 }
@@ -103,27 +103,27 @@ pub fn members_of<R: AllocGlobal + Wait, N: Named>(
     store: &RunningStore<N>,
     chain: ChainId,
     ids: &[NodeId],
-) -> Result<Vec<Member>, AllocError>
+) -> Result<Vec<MemberCondition>, AllocError>
     ensures { IfOk result (λ members. map (λ m. m.node) members.items ≡ ids.now) }
 {
     let mut members = Vec::new(rt.alloc());
     for id in ids {
         let node = *id;
         let condition = condition_of(rt, store, NodeName { chain, node })?;
-        members.push(Member { node, condition })?;
+        members.push(MemberCondition { node, condition })?;
     }
     Ok(members)
 }
 
 /// Returns whether this member is ready.
-fn is_ready(members: &[Member], node: NodeId) -> bool
+fn is_ready(members: &[MemberCondition], node: NodeId) -> bool
     ensures { result ≡ list_any (is_ready_as node) members.now }
 {
     members.iter().any(|member| member.node == node && member.condition.is_ready())
 }
 
 /// Returns whether a member other than this one is ready.
-fn is_other_ready(members: &[Member], node: NodeId) -> bool
+fn is_other_ready(members: &[MemberCondition], node: NodeId) -> bool
     ensures { result ≡ list_any (is_ready_beside node) members.now }
 {
     members.iter().any(|member| member.node != node && member.condition.is_ready())
@@ -133,7 +133,7 @@ fn is_other_ready(members: &[Member], node: NodeId) -> bool
 ///
 /// Only control lines stop nodes, and one runs at a time, so a node that is ready stays so until
 /// the next line.
-pub fn is_last_ready(members: &[Member], node: NodeId) -> bool
+pub fn is_last_ready(members: &[MemberCondition], node: NodeId) -> bool
     ensures { result ≡ is_last_ready members.now node }
 {
     is_ready(members, node) && !is_other_ready(members, node)

@@ -5,7 +5,7 @@ ghost use Rattle.std.specs.Prelude.{◌≡◌, if◌then◌else◌, false, true,
 use crate::audits::print_audits;
 use crate::closing::{watch_control, watch_input};
 use crate::controlling::run_lines;
-use crate::failure::Failure;
+use crate::failure::StartFailure;
 use crate::fault::Fault;
 use crate::line_slot::LineSlot;
 use crate::pages::Pages;
@@ -33,17 +33,17 @@ use std::{io, thread};
 pub type RunningStore<N> = Store<At<ListCore, N>, OpenGate>;
 
 /// Returns the failure to listen on the address that the command line gives under this name.
-fn listen_failure(alloc: Global, name: &str, address: &str, error: &io::Error) -> Failure {
+fn listen_failure(alloc: Global, name: &str, address: &str, error: &io::Error) -> StartFailure {
     let reason = match error.kind() {
-        ErrorKind::OutOfMemory => return Failure::from(Fault::Memory),
+        ErrorKind::OutOfMemory => return StartFailure::from(Fault::Memory),
         ErrorKind::InvalidInput => format!(in alloc; "{name} {address}: {ADDRESS_FORM}"),
         _ => format!(in alloc; "{name} {address}: {error}"),
     };
-    Failure::new(Fault::CannotListen, reason)
+    StartFailure::new(Fault::CannotListen, reason)
 }
 
 /// Listens on the address that the command line gives under this name.
-fn listen<R>(rt: &R, name: &str, address: &str) -> Result<TcpListener, Failure>
+fn listen<R>(rt: &R, name: &str, address: &str) -> Result<TcpListener, StartFailure>
 where
     R: AllocGlobal + Net<Listener = TcpListener, Stream = TcpStream>,
 {
@@ -54,7 +54,7 @@ where
 }
 
 /// Listens for requests for metrics, if the command line asks for that.
-fn listen_for_metrics<R>(rt: &R, line: &Line<'_>) -> Result<Option<TcpListener>, Failure>
+fn listen_for_metrics<R>(rt: &R, line: &Line<'_>) -> Result<Option<TcpListener>, StartFailure>
 where
     R: AllocGlobal + Net<Listener = TcpListener, Stream = TcpStream>,
 {
@@ -64,7 +64,7 @@ where
     let listener = listen(rt, "--metrics", address)?;
     match listener.set_nonblocking(true) {
         Ok(()) => Ok(Some(listener)),
-        Err(_) => Err(Failure::from(Fault::CannotListen)),
+        Err(_) => Err(StartFailure::from(Fault::CannotListen)),
     }
 }
 
@@ -389,7 +389,7 @@ where
 }
 
 /// Listens as a command line asks for and serves the connections to a store.
-fn serve_store<R, N>(rt: R, store: &RunningStore<N>, line: &Line<'_>) -> Result<(), Failure>
+fn serve_store<R, N>(rt: R, store: &RunningStore<N>, line: &Line<'_>) -> Result<(), StartFailure>
 where
     N: Named + Send + 'static,
     R: AllocGlobal + Input<Reader = StdinLock<'static>> + Print + Eprint + Clock,
@@ -423,7 +423,11 @@ const fn gate() -> OpenGate
 
 /// Starts a store of the chains of a plan file, with journals exactly where the command line asks
 /// for them.
-fn store_of<R, N>(rt: R, line: &Line<'_>, opened: OpenedHistory) -> Result<RunningStore<N>, Failure>
+fn store_of<R, N>(
+    rt: R,
+    line: &Line<'_>,
+    opened: OpenedHistory,
+) -> Result<RunningStore<N>, StartFailure>
 where
     N: Named + Send + 'static,
     R: AllocGlobal + Files + Threads + Wait + Copy + Send + 'static,
@@ -433,12 +437,12 @@ where
     let plan = plan_of(&rt, line.plan)?;
     match Store::start(rt, rt.alloc(), opened, &plan, gate(), line.journal) {
         Ok(store) => Ok(store),
-        Err(_) => Err(Failure::from(Fault::Memory)),
+        Err(_) => Err(StartFailure::from(Fault::Memory)),
     }
 }
 
 /// Serves as a command line asks for, with a store of this history.
-fn serve_named<R, N>(rt: R, line: &Line<'_>, opened: OpenedHistory) -> Result<(), Failure>
+fn serve_named<R, N>(rt: R, line: &Line<'_>, opened: OpenedHistory) -> Result<(), StartFailure>
 where
     N: Named + Send + 'static,
     R: AllocGlobal + Files + Input<Reader = StdinLock<'static>> + Print + Eprint + Clock,
@@ -453,7 +457,7 @@ where
 }
 
 /// Serves as a command line asks for.
-pub fn serve_line<R>(rt: R, line: &Line<'_>) -> Result<(), Failure>
+pub fn serve_line<R>(rt: R, line: &Line<'_>) -> Result<(), StartFailure>
 where
     R: AllocGlobal + Files + Input<Reader = StdinLock<'static>> + Print + Eprint + Clock,
     R: Threads + Wait + Copy,

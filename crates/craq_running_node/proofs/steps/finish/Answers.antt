@@ -2,7 +2,7 @@ use Rattle.std.proofs.Common.{◌≡◌, ◌∙◌, ℕ, [], List, Option, None,
 use Rattle.std.specs.Option.{option_copied}
 use Rattle.std.specs.declared.alloc.AllocError.{AllocError}
 use Rattle.std.specs.declared.alloc.Global.{Global}
-use Rattle.craq_completions.specs.declared.token.Token.{Token}
+use Rattle.craq_completions.specs.declared.token.CallToken.{CallToken}
 use Rattle.craq_model.specs.declared.step.Step.{Step}
 use Rattle.craq_seat.specs.declared.seat.Caller.{Caller}
 use Rattle.craq_seat.specs.Calls.{Called}
@@ -12,7 +12,7 @@ use Rattle.craq_running_node.proofs.steps.finish.Goals as goal
 use Rattle.craq_running_node.proofs.steps.finish.Goals.{in-Some, in_default}
 
 -- receipts that found no memory, and no step: nobody gets a reply
-nobody : (callers : List (Caller Token)) (calls : Result (Vec Called Global) AllocError) (e : AllocError) (last : Option Step) (ticket : Option ℕ) (before after : PendingReplies)
+nobody : (callers : List (Caller CallToken)) (calls : Result (Vec Called Global) AllocError) (e : AllocError) (last : Option Step) (ticket : Option ℕ) (before after : PendingReplies)
     → calls ≡ Err e → None ≡ last → after ≡ before → Keeps before (replies_to callers (said_by calls last ticket)) after
 nobody callers (Ok receipts) e last ticket before after is none same = absurd cc
 nobody callers (Err x) e None ticket before after is none same = subst (λ (r : PendingReplies). Keeps before [] r) (sym same) (keeps_none before)

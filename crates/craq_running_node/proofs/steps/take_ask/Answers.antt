@@ -1,5 +1,5 @@
 use Rattle.std.proofs.Common.{◌≡◌, ◌∙◌, rules, ap, inr, subst, sym, List, Option, ℕ, refl}
-use Rattle.craq_completions.specs.declared.token.Token.{Token}
+use Rattle.craq_completions.specs.declared.token.CallToken.{CallToken}
 use Rattle.craq_model.specs.declared.ask.Ask.{Ask}
 use Rattle.craq_model.specs.declared.ask.Event.TheVariants as events
 use Rattle.craq_seat.specs.declared.seat.Caller.{Caller}
@@ -39,8 +39,8 @@ returns-in-Ok-clause-taken g c =
     let its : ticket_in accepted ≡ ticket_of took.cell.last = ticket_accepted took.cell.opening.name took.cell.stamp pass c.into_parts-ask.result.1.call took.cell.last accepted c.in-Ok.ensures.moved (rw c.called.ensures at c.in-Ok.ensures.accepted) in
     let same : c.last_ticket.result ≡ ticket_in accepted = own ∙ sym its in
     let said = said_by calls took.cell.last c.last_ticket.result in
-    let others = c.finish-reply.ensures.others ∙ ap (λ (cs : List (Caller Token)). waiting_after cs said) c.reserve.ensures.items in
-    let kept = subst (λ (cs : List (Caller Token)). Keeps before (replies_to cs said) after) c.reserve.ensures.items c.finish-reply.ensures.reported in
+    let others = c.finish-reply.ensures.others ∙ ap (λ (cs : List (Caller CallToken)). waiting_after cs said) c.reserve.ensures.items in
+    let kept = subst (λ (cs : List (Caller CallToken)). Keeps before (replies_to cs said) after) c.reserve.ensures.items c.finish-reply.ensures.reported in
     let reported = reported_callers represents old took new.desk new.callers.items (events.Ask ask) c.in-Ok.field-0-0 pass pass c.last_ticket.result calls before after
     c.finish-reply.ensures.desk c.in-Ok.ensures.receipt refl (c.in-Ok.ensures.step, c.take.ensures.kept) c.in-Ok.ensures.calls others kept in
     let by_ask = subst (λ (a : Ask). TellsCallers represents old new.desk new.callers.items (events.Ask a) pass c.last_ticket.result calls before after) c.into_parts-ask.ensures.ask reported in (

@@ -1,6 +1,6 @@
 use Rattle.std.proofs.Common.{rules, arith, ◌≡◌, ◌+◌, ◌-◌, [], Some, Ok, drop, length, length-drop, ◌∙◌}
 use Rattle.std.proofs.lemmas.List.{nil_from_length, take_all}
-use Rattle.craq_front.specs.declared.protocol_codec.Step.TheVariants.{Ask}
+use Rattle.craq_front.specs.declared.protocol_codec.CodecEvent.TheVariants.{Ask}
 use Rattle.craq_front.proofs.Lengths.{whole_frame}
 use Rattle.craq_front.proofs.Nexts.{first_asked, taken_off}
 use Rattle.craq_front.proofs.protocol_codec.ProtocolCodec.receive_in_place.Goals as goal

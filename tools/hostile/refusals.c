@@ -1,5 +1,5 @@
 /* Preloaded into a program, this library refuses one of its asks for memory, or the start of one of its threads, and counts
-   them. It is told what to do by the environment:
+   them. It can also make `accept4` fail. It is told what to do by the environment:
 
      REFUSE_MEMORY=N    the Nth ask for memory that counts gets none; 0, or nothing, refuses none
      REFUSE_THREAD=N    the Nth thread is not started
@@ -9,6 +9,7 @@
                         hexadecimal, from A up to B of the program's file, as `nm` has them. A call that was inlined has none
      REFUSE_CALL=NAME   an ask for memory, or for a thread, counts only in a thread that wrote `begin NAME` to its standard error, until it
                         writes `end NAME` there: craq_node_tests does. Such marks, of any name, are not passed on
+     REFUSE_ACCEPT=N    the first N calls of `accept4` that count fail with the error number REFUSE_ERROR
      REFUSE_TOLD=FILE   a line `refused` is added to FILE at each refusal, and one with the counts where a call of REFUSE_CALL ends, and
                         where the program ends by `exit`, as craq_lab does and craqd does not. A line `smaller` follows `refused` where a
                         block was to become smaller: without memory for that the program may keep the block as it is
@@ -27,6 +28,7 @@
 #include <stdio.h>
 #include <stdlib.h>
 #include <string.h>
+#include <sys/socket.h>
 #include <unistd.h>
 
 enum { MOST_CALLS = 256, MOST_FRAMES = 4096, MOST_MARK = 128 };
@@ -40,9 +42,9 @@ struct call { uintptr_t from, to; };
 
 static struct call calls[MOST_CALLS];
 static int calls_known, told = -1, refuses_on;
-static long memory_at, thread_at;
+static long memory_at, thread_at, accepts_failing, accept_error;
 static const char *after, *call;
-static atomic_long memory_asked, threads_asked;
+static atomic_long memory_asked, threads_asked, accepts_asked;
 static atomic_int counts;
 static __thread uintptr_t stack_end;
 static __thread int runs_call;
@@ -80,6 +82,8 @@ __attribute__((constructor)) static void begin(void) {
     told = file ? open(file, O_WRONLY | O_APPEND | O_CREAT | O_CLOEXEC, 0600) : -1;
     memory_at = number_of("REFUSE_MEMORY");
     thread_at = number_of("REFUSE_THREAD");
+    accepts_failing = number_of("REFUSE_ACCEPT");
+    accept_error = number_of("REFUSE_ERROR");
     refuses_on = number_of("REFUSE_ON") != 0;
     after = getenv("REFUSE_AFTER");
     call = getenv("REFUSE_CALL");
@@ -171,6 +175,15 @@ int pthread_create(pthread_t *made, const pthread_attr_t *how, void *(*run)(void
     int status = real(made, how, begin_thread, start);
     if (status) free(start);
     return status;
+}
+
+int accept4(int file, struct sockaddr *from, socklen_t *size, int flags) {
+    static int (*real)(int, struct sockaddr *, socklen_t *, int);
+    if (!real) real = (int (*)(int, struct sockaddr *, socklen_t *, int))dlsym(RTLD_NEXT, "accept4");
+    if (!is_counted() || atomic_fetch_add(&accepts_asked, 1) >= accepts_failing) return real(file, from, size, flags);
+    tell("refused\n");
+    errno = (int)accept_error;
+    return -1;
 }
 
 /* Returns 0 if these bytes are no mark of this word, as `begin`; 2 for a mark of the call that counts, 1 for that of another. */

@@ -20,6 +20,8 @@ head of its file:
              of the program of craq_thread_tests, which --stress names
     server   each ask for memory and each thread of craqd refused in turn, while it is asked
              (refused_server.py); needs a C compiler
+    accepted each answer of the public call `accept` of the server library (accepted.py); where `rt`
+             can build its program; needs a C compiler
     limits   craqd among 1,400 connections that attack it, and where it gets no more memory, files
              or threads (limits.py)
     served   what a store promises clients over TCP while its nodes stop, are removed and join
@@ -42,9 +44,8 @@ import sys
 import time
 
 from tools.checks import Checks
-from tools.hostile import (attack, every_stop, figures, limits, refused, refused_calls, refused_server,
-                           removed,
-                           served, soak, stressed, watched)
+from tools.hostile import (accepted, attack, every_stop, figures, limits, refused, refused_calls,
+                           refused_server, removed, served, soak, stressed, watched)
 
 SEEDS = 100
 LEFT_OUT = "left out: its program is missing, which ./test makes"
@@ -60,6 +61,7 @@ def parts(asked):
         "calls": lambda checks: refused_calls.tried(checks, asked.calls) if asked.calls else LEFT_OUT,
         "stress": lambda checks: stressed.tried(checks, asked.stress) if asked.stress else LEFT_OUT,
         "limits": lambda checks: limits.tried(checks, asked.craqd),
+        "accepted": accepted.tried,
         "served": served.tried,
         "removed": removed.tried,
         "watched": lambda checks: watched.tried(checks, asked.craq_lab, asked.craqd),

@@ -4,7 +4,7 @@ use Rattle.slab.specs.Slab.{Slab, get, with_value}
 use Rattle.slab.proofs.SlabLemmas.{Updates-with_value}
 use Rattle.craq_names.specs.declared.refusal.Refusal.{Refusal}
 use Rattle.craq_seat.specs.Calls.{Called}
-use Rattle.craq_completions.specs.declared.token.CallToken.{CallToken}
+use Rattle.craq_seat.specs.declared.token.CallToken.{CallToken}
 use Rattle.craq_session.specs.Asking.{Calling, Finishing, IsAsked, IsOutcome, IsRefusedAtOnce}
 use Rattle.craq_session.specs.ConnectionStates.{AnswersCall, Took}
 use Rattle.craq_session.specs.Halves.{IsRefusable}

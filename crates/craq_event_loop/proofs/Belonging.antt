@@ -10,8 +10,8 @@ use Rattle.craq_session.specs.declared.call_request.CallRequest.{CallRequest}
 use Rattle.craq_session.specs.declared.connection_state.Ending.TheVariants as endings
 use Rattle.craq_session.specs.declared.connection_state.Phase.{Phase}
 use Rattle.craq_session.specs.declared.connection_state.Phase.TheVariants as phases
-use Rattle.craq_completions.specs.declared.queue_state.Completion.{Completion}
-use Rattle.craq_completions.specs.declared.token.CallToken.{CallToken}
+use Rattle.craq_seat.specs.declared.queue_state.Completion.{Completion}
+use Rattle.craq_seat.specs.declared.token.CallToken.{CallToken}
 use Rattle.slab.specs.Slab.{Slab, get, with_value}
 use Rattle.slab.proofs.SlabLemmas.{Updates-with_value}
 use Rattle.craq_event_loop.specs.declared.connection.Connection.{Connection}

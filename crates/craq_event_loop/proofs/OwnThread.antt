@@ -2,7 +2,7 @@
 use Rattle.std.proofs.Common.{◌≡◌, ◌⊎◌, ◌↔◌, ◌∙◌, ◌++◌, ℕ, Bool, true, false, not, IsTrue, List, [], Option, Result, inl, inr, sym, refl, ap, append_assoc, subst}
 use Rattle.std.specs.Io.KnownBytes.{Appends, Consumes}
 use Rattle.std.proofs.lemmas.List.{append-nil}
-use Rattle.craq_completions.specs.declared.token.CallToken.{CallToken}
+use Rattle.craq_seat.specs.declared.token.CallToken.{CallToken}
 use Rattle.craq_front.proofs.Known.{appends_none, appends_then, consumes_none, consumes_then}
 use Rattle.craq_session.specs.Asking.{Calling, Finishing}
 use Rattle.craq_session.specs.ConnectionStates.{AnswersCall, Continues}

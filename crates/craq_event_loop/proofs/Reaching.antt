@@ -4,8 +4,8 @@ use Rattle.std.proofs.lemmas.Bool.{cases_eq}
 use Rattle.slab.specs.Slab.{Slab, get, with_value}
 use Rattle.slab.proofs.SlabLemmas.{Contains-entries, Updates-with_value, length-entries}
 use Rattle.mio.specs.declared.event.event.Event.{Event}
-use Rattle.craq_completions.specs.declared.queue_state.Completion.{Completion}
-use Rattle.craq_completions.specs.declared.token.CallToken.{CallToken}
+use Rattle.craq_seat.specs.declared.queue_state.Completion.{Completion}
+use Rattle.craq_seat.specs.declared.token.CallToken.{CallToken}
 use Rattle.craq_session.specs.Asking.{Calling, Finishing}
 use Rattle.craq_session.specs.Turns.{Refusing}
 use Rattle.craq_session.specs.declared.connection_state.ConnectionState.{ConnectionState}

@@ -5,8 +5,8 @@ use Rattle.slab.specs.Slab.{Slab, get}
 use Rattle.craq_names.specs.declared.refusal.Refusal.{Refusal}
 use Rattle.craq_front.specs.Talk.{Exchanges}
 use Rattle.craq_seat.specs.Calls.{Called}
-use Rattle.craq_completions.specs.declared.queue_state.Completion.{Completion}
-use Rattle.craq_completions.specs.declared.token.CallToken.{CallToken}
+use Rattle.craq_seat.specs.declared.queue_state.Completion.{Completion}
+use Rattle.craq_seat.specs.declared.token.CallToken.{CallToken}
 use Rattle.craq_session.specs.Asking.{Finishing, IsOutcome}
 use Rattle.craq_session.specs.ConnectionStates.{AnswersCall, Holds}
 use Rattle.craq_session.specs.declared.call_request.CallRequest.{CallRequest}

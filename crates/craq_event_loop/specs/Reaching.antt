@@ -2,7 +2,7 @@
 use Rattle.std.specs.Prelude.{◌≡◌, ℕ, true, false, List, [], ◌++◌, Option, Some}
 use Rattle.std.specs.Io.KnownBytes.{Appends, Consumes}
 use Rattle.slab.specs.Slab.{Slab, get}
-use Rattle.craq_completions.specs.declared.token.CallToken.{CallToken}
+use Rattle.craq_seat.specs.declared.token.CallToken.{CallToken}
 use Rattle.craq_session.specs.Asking.{Calling, Finishing}
 use Rattle.craq_session.specs.ConnectionStates.{Holds}
 use Rattle.craq_session.specs.Turns.{Refusing}

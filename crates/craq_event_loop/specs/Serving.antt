@@ -5,7 +5,7 @@ use Rattle.craq_session.specs.Asking.{Calling}
 use Rattle.craq_session.specs.Turns.{Refusing}
 use Rattle.craq_session.specs.declared.connection_state.Phase.TheVariants as phases
 use Rattle.craq_session.specs.declared.call_request.CallRequest.{CallRequest}
-use Rattle.craq_completions.specs.declared.token.CallToken.{CallToken}
+use Rattle.craq_seat.specs.declared.token.CallToken.{CallToken}
 use Rattle.craq_event_loop.specs.declared.connection.Connection.{Connection}
 use Rattle.craq_event_loop.specs.Advancing.{TakeRounds}
 use Rattle.craq_event_loop.specs.Belonging.{KeepsSlot, OneByOne, Reads, Writes}

@@ -1,12 +1,12 @@
 //! `LoopBackend`: the backend of an event loop, which is asked without waiting, and the source of
 //! its connections. The server of a store is one.
 ghost use Rattle.std.specs.Prelude.{Bool, IfSome, List};
-ghost use Rattle.craq_completions.specs.declared.queue_state.Completion.{Completion};
+ghost use Rattle.craq_seat.specs.declared.queue_state.Completion.{Completion};
 ghost use Rattle.craq_session.specs.Asking.{called_by};
 ghost use Rattle.craq_event_loop.specs.Reaching.{IsReachable};
 
 use crate::traffic::ClientStream;
-use craq_completions::Completion;
+use craq_seat::Completion;
 use craq_session::{AsyncBackend, ConnectionState};
 
 /// A connection that came to an event loop.

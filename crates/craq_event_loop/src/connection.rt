@@ -8,7 +8,7 @@ ghost use Rattle.craq_event_loop.specs.Starved.{IsStarved};
 use crate::backend::{LoopBackend, NewConnection};
 use crate::socket::{Moved, Socket};
 use crate::traffic::ClientStream;
-use craq_completions::{CallToken, Outcome};
+use craq_seat::{CallToken, Outcome};
 use craq_session::{
     AsyncBackend, BlockingBackend, ConnectionState, Load, ReceiptPolicy, Stepped, UnsentCall,
 };

@@ -19,7 +19,7 @@ use crate::backend::{LoopBackend, NewConnection};
 use crate::connection::{Connection, MOST_STEPS, Share, register};
 use crate::socket::Socket;
 use crate::traffic::ClientStream;
-use craq_completions::Completion;
+use craq_seat::Completion;
 use craq_session::{Load, ReceiptPolicy};
 use mio::event::{Event, Events};
 use mio::{Poll, Registry, Token, Waker};

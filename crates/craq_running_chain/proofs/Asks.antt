@@ -5,8 +5,8 @@ use Rattle.craq_commands.specs.declared.read_mode.ReadMode.TheVariants as modes
 use Rattle.craq_names.specs.declared.name.NodeName.{NodeName}
 use Rattle.craq_names.specs.declared.refusal.Refusal.{Refusal}
 use Rattle.craq_names.specs.declared.refusal.Refusal.TheVariants as refusals
-use Rattle.craq_completions.specs.Refused.{CanRefuse, CanWait, IsUpdate}
-use Rattle.craq_completions.specs.declared.token.CallToken.{CallToken}
+use Rattle.craq_seat.specs.RefusedCalls.{CanRefuse, CanWait, IsUpdate}
+use Rattle.craq_seat.specs.declared.token.CallToken.{CallToken}
 use Rattle.craq_model.specs.declared.ask.Ask.{Ask}
 use Rattle.craq_model.specs.declared.ask.Ask.TheVariants as asks
 use Rattle.craq_model.specs.Plain.{Plain}

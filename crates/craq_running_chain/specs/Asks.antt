@@ -1,7 +1,7 @@
 -- The outcome of a request that is put to a node of a running store.
 use Rattle.std.specs.Prelude.{◌≡◌, ◌⊎◌, ℕ, Bool, true, false, [], Option, Some, None, Result, Ok, Err}
-use Rattle.craq_completions.specs.Refused.{IsUpdate}
-use Rattle.craq_completions.specs.declared.token.CallToken.{CallToken}
+use Rattle.craq_seat.specs.RefusedCalls.{IsUpdate}
+use Rattle.craq_seat.specs.declared.token.CallToken.{CallToken}
 use Rattle.craq_model.specs.declared.ask.Ask.{Ask}
 use Rattle.craq_model.specs.Plain.{Plain}
 use Rattle.craq_names.specs.declared.refusal.Refusal.{Refusal}

@@ -7,7 +7,7 @@ use Rattle.std.specs.declared.alloc.Global.{Global}
 use Rattle.craq_names.specs.declared.name.NodeName.{NodeName}
 use Rattle.craq_names.specs.declared.refusal.Refusal.{Refusal}
 use Rattle.craq_names.specs.declared.refusal.Refusal.TheVariants as refusals
-use Rattle.craq_completions.specs.declared.token.CallToken.{CallToken}
+use Rattle.craq_seat.specs.declared.token.CallToken.{CallToken}
 use Rattle.craq_model.specs.declared.ask.Ask.{Ask}
 use Rattle.craq_model.specs.declared.ask.Event.{Event}
 use Rattle.craq_model.specs.declared.ask.Event.TheVariants as events

@@ -4,9 +4,9 @@ ghost use Rattle.std.specs.Prelude.{◌≡◌};
 
 use crate::call_refusal::CallRefusal;
 use crate::callers::CallOutcome;
-use craq_completions::{CallToken, CompletionQueue, CompletionSender};
 use craq_ghost_history::Named;
 use craq_names::{Pass, Refusal};
+use craq_seat::{CallToken, CompletionQueue, CompletionSender};
 use craq_store_parts::MadeAsk;
 use std::sync::Arc;
 

@@ -4,10 +4,9 @@ ghost use Rattle.std.specs.Prelude.{◌≡◌, Err, None, Ok, Some, option_map};
 ghost use Rattle.craq_running_node.specs.Replies.{IsReplyTo, recipient_of, ticket_in};
 
 use crate::call_refusal::CallRefusal;
-use craq_completions::CompletionSender;
 use craq_ghost_history::Named;
 use craq_names::Ticket;
-use craq_seat::Ticketed;
+use craq_seat::{CompletionSender, Ticketed};
 use craq_store_parts::{AcceptedCall, AnsweredCall, StepReceipt};
 use std::marker::Model;
 use std::sync::Wait;
@@ -31,7 +30,7 @@ pub struct PendingCaller<N: Named> {
 }
 
 impl<N: Named> Model for PendingCaller<N> {
-    ghost use Rattle.craq_completions.specs.declared.token.CallToken.{CallToken};
+    ghost use Rattle.craq_seat.specs.declared.token.CallToken.{CallToken};
     ghost use Rattle.craq_seat.specs.declared.seat.Caller.{Caller};
 
     ghost Value = { Caller CallToken };

@@ -21,12 +21,11 @@ use crate::call_refusal::CallRefusal;
 use crate::callers::{CallOutcome, OwnReply, PendingCaller, ReadyReply, joined};
 use crate::losses::Losses;
 use crate::replies::Replies;
-use craq_completions::CompletionSender;
 use craq_ghost_history::Named;
 use craq_model::{Event, Out, Step};
 use craq_names::{NodeName, Pass, Refusal, Seq, Ticket};
 use craq_node::Core;
-use craq_seat::{BookCell, CallReceipt, Cell, Receipt, TicketQueue};
+use craq_seat::{BookCell, CallReceipt, Cell, CompletionSender, Receipt, TicketQueue};
 use craq_store_parts::{
     AcceptedCall, Cause, LoneAck, MadeAsk, Messages, Origin, OwedAck, RecordedBook, RecordedDesk,
     Sent, StepCalls, StepReceipt, StoreHistory, StoreToken, encode_entries, encode_sent,

@@ -7,3 +7,4 @@ pub mod Booking
 pub mod Own
 pub mod Queues
 pub mod Moved
+pub mod SortedReceipts

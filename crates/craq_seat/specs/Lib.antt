@@ -9,3 +9,7 @@ pub mod Calls
 pub mod Queues
 pub mod Merge
 pub mod Audits
+pub mod CallCompletions
+pub mod RefusedCalls
+pub mod SortedReceipts
+pub mod CompletionQueues

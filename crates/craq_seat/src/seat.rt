@@ -1,5 +1,5 @@
 //! `Seat`: a desk under a lock, with the callers that wait for its replies; used by
-//! `craq_running_node`, the crates above it, and `craq_cell_chain`.
+//! `craq_cell_chain`.
 use crate::{Desk, TicketQueue, Ticketed};
 use craq_names::Ticket;
 use craq_node::Core;

@@ -10,7 +10,7 @@ use Rattle.craq_names.specs.declared.refusal.Refusal.TheVariants as refusals
 use Rattle.craq_names.specs.declared.refusal.Refusal.TheVariants.{Closed}
 use Rattle.craq_model.specs.declared.ask.Ask.{Ask}
 use Rattle.craq_model.specs.declared.ask.Ask.TheVariants as asks
-use Rattle.craq_completions.specs.Refused.{CanRefuse}
+use Rattle.craq_seat.specs.RefusedCalls.{CanRefuse}
 use Rattle.craq_frames.specs.Payload.{NamesNode}
 use Rattle.craq_session.proofs.Reportable.{can_encode}
 use Rattle.craq_session.specs.declared.call_request.CallRequest.{CallRequest}

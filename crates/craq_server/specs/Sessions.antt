@@ -12,7 +12,7 @@ use Rattle.craq_frames.specs.declared.ask.ClientMessage.TheVariants as messages
 use Rattle.craq_frames.specs.declared.answer.ClientReply.{ClientReply}
 use Rattle.craq_frames.specs.declared.answer.ClientReply.TheVariants as replies
 use Rattle.craq_front.specs.Talk.{Exchanges}
-use Rattle.craq_completions.specs.declared.token.CallToken.{CallToken}
+use Rattle.craq_seat.specs.declared.token.CallToken.{CallToken}
 use Rattle.craq_seat.specs.Calls.{Called}
 use Rattle.craq_session.specs.Asking.{called_by}
 use Rattle.craq_session.specs.declared.call_request.CallRequest.{CallRequest}

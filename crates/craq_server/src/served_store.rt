@@ -1,7 +1,7 @@
 //! `ServedStore`: a running store as the connections of one thread call it; made by `accepting` and
 //! `io_threads`.
 ghost use Rattle.std.specs.Prelude.{◌≡◌, ◌<◌, ℕ, IfErr, IfOk, List, length};
-ghost use Rattle.craq_completions.specs.Refused.{CanRefuse};
+ghost use Rattle.craq_seat.specs.RefusedCalls.{CanRefuse};
 ghost use Rattle.craq_session.specs.Asking.{at_once};
 ghost use Rattle.craq_session.specs.Turns.{kept};
 ghost use Rattle.craq_server.specs.Refusing.{RefusesServed};
@@ -14,11 +14,10 @@ use crate::logging::Log;
 use crate::passes::Passes;
 use crate::status::status_text;
 use crate::store_session::StoreSession;
-use craq_completions::{Completion, CompletionQueue, pass_after, refusal_of_call};
 use craq_frames::Text;
 use craq_names::Refusal;
 use craq_node::Core;
-use craq_seat::CallReceipt;
+use craq_seat::{CallReceipt, Completion, CompletionQueue, pass_after, refusal_of_call};
 use craq_session::{
     AsyncBackend, Backend, BlockingBackend, CallRequest, ConnectionState, Load, SubmitToken,
 };

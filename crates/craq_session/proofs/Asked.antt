@@ -1,6 +1,6 @@
 -- A call that was asked, by its outcome at once or by a completion.
 use Rattle.std.proofs.Common.{◌≡◌, Option, Result, subst, sym}
-use Rattle.craq_completions.specs.declared.token.CallToken.{CallToken}
+use Rattle.craq_seat.specs.declared.token.CallToken.{CallToken}
 use Rattle.craq_names.specs.declared.refusal.Refusal.{Refusal}
 use Rattle.craq_seat.specs.Calls.{Called}
 use Rattle.craq_session.specs.Asking.{Finishing, IsAsked, IsFinished, IsOutcome, IsRefusedAtOnce, IsSubmitted, Submitting, called_by}

@@ -1,7 +1,7 @@
 -- Refusals of a call that was asked and came back.
 use Rattle.std.proofs.Common.{◌≡◌, Ok, Err, inl, inr, sym, subst}
 use Rattle.craq_names.specs.declared.refusal.Refusal.{Refusal}
-use Rattle.craq_completions.specs.Refused.{CanRefuse}
+use Rattle.craq_seat.specs.RefusedCalls.{CanRefuse}
 use Rattle.craq_seat.specs.Calls.{Called}
 use Rattle.craq_session.specs.Asking.{MayHaveAny}
 use Rattle.craq_session.specs.Halves.{CanComeBack, IsRefusable}

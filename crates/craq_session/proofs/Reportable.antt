@@ -3,7 +3,7 @@ use Rattle.std.proofs.Common.{◌≡◌, ℕ, List, Result, Ok, Err, IfErr, inl,
 use Rattle.craq_names.specs.declared.refusal.Refusal.{Refusal}
 use Rattle.craq_names.specs.declared.refusal.Refusal.TheVariants as refusals
 use Rattle.craq_commands.specs.declared.reply.Reply.{Reply}
-use Rattle.craq_completions.specs.Refused.{CanRefuse}
+use Rattle.craq_seat.specs.RefusedCalls.{CanRefuse}
 use Rattle.craq_model.specs.declared.ask.Answer.TheVariants as answers
 use Rattle.craq_model.specs.declared.ask.Ask.{Ask}
 use Rattle.craq_frames.specs.declared.answer.ClientReply.TheVariants as replies

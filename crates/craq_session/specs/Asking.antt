@@ -1,9 +1,9 @@
 -- A call that a session submits, and its outcome, which comes at once or later.
 use Rattle.std.specs.Prelude.{◌≡◌, Option, None, Some, Result, Ok, Err, IfErr}
-use Rattle.craq_completions.specs.declared.token.CallToken.{CallToken}
+use Rattle.craq_seat.specs.declared.token.CallToken.{CallToken}
 use Rattle.craq_names.specs.declared.refusal.Refusal.{Refusal}
 use Rattle.craq_model.specs.declared.ask.Ask.{Ask}
-use Rattle.craq_completions.specs.Refused.{CanRefuse}
+use Rattle.craq_seat.specs.RefusedCalls.{CanRefuse}
 use Rattle.craq_frames.specs.Payload.{NamesNode}
 use Rattle.craq_seat.specs.Calls.{Called}
 use Rattle.craq_session.specs.Turns.{Refusing}

@@ -4,7 +4,7 @@ ghost use Rattle.std.specs.Prelude.{◌≡◌, IfSome};
 ghost use Rattle.craq_session.specs.Asking.{IsRefusedAtOnce, IsReportable, IsSubmitted};
 
 use crate::{AsyncBackend, CallRequest};
-use craq_completions::{CallToken, Outcome};
+use craq_seat::{CallToken, Outcome};
 
 /// A call that a step made (`Stepped::Calls`). Outside of this crate only `ConnectionState::ask`
 /// takes one. It is neither `Copy` nor `Drop`, so each call that a step made is asked exactly once.

@@ -1,21 +1,20 @@
 //! `Backend`, `AsyncBackend` and `BlockingBackend`: what the connections of a server call; the
 //! served store is one.
 ghost use Rattle.std.specs.Prelude.{◌≡◌, ℕ, IfErr, IfOk, List, Option, Result};
-ghost use Rattle.craq_completions.specs.declared.token.CallToken.{CallToken};
+ghost use Rattle.craq_seat.specs.declared.token.CallToken.{CallToken};
 ghost use Rattle.craq_model.specs.declared.ask.Ask.{Ask};
 ghost use Rattle.craq_names.specs.declared.name.NodeName.{NodeName};
 ghost use Rattle.craq_names.specs.declared.refusal.Refusal.{Refusal};
-ghost use Rattle.craq_completions.specs.Refused.{CanRefuse};
+ghost use Rattle.craq_seat.specs.RefusedCalls.{CanRefuse};
 ghost use Rattle.craq_frames.specs.Payload.{NamesNode};
 ghost use Rattle.craq_seat.specs.Calls.{Called};
 ghost use Rattle.craq_session.specs.Asking.{MayHaveAny, at_once};
 ghost use Rattle.craq_session.specs.declared.call_request.CallRequest.{CallRequest};
 
 use crate::{CallRequest, SubmitToken};
-use craq_completions::Outcome;
 use craq_frames::Text;
 use craq_names::Refusal;
-use craq_seat::CallReceipt;
+use craq_seat::{CallReceipt, Outcome};
 use std::alloc::AllocError;
 
 /// A backend that connections call, however they call it.

@@ -8,12 +8,11 @@ ghost use Rattle.craq_session.specs.Turns.{IsCalled, kept, name_of};
 ghost use Rattle.craq_session.specs.Halves.{Asks, BeginsTurn, EndsTurn, HasOwnReceipt, HasRoom, IsClosed, IsStatusReply, MakesRoom, RefusesCall, asked_by};
 
 use crate::{Backend, DoorCalls};
-use craq_completions::answer_of_call;
 use craq_frames::{ClientMessage, ClientReply};
 use craq_front::is_allowed;
 use craq_model::Ask;
 use craq_names::{NodeId, NodeName, Pass, Refusal};
-use craq_seat::CallReceipt;
+use craq_seat::{CallReceipt, answer_of_call};
 use std::alloc::Global;
 
 /// The call that a request asks for.

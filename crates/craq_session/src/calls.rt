@@ -6,11 +6,10 @@ ghost use Rattle.craq_node_invariant.specs.Sound.{IsEncodableAnswer};
 ghost use Rattle.craq_session.specs.Halves.{HasNoRoom, HasRoom};
 ghost use Rattle.craq_session.specs.Turns.{IsReplyOf, kept, message_of, reply_of};
 
-use craq_completions::pass_after;
 use craq_frames::ClientReply;
 use craq_model::Answer;
 use craq_names::Pass;
-use craq_seat::CallReceipt;
+use craq_seat::{CallReceipt, pass_after};
 use std::alloc::{AllocError, Global};
 
 /// The receipts that a request handler has of its earlier requests.

@@ -7,11 +7,10 @@ ghost use Rattle.craq_session.specs.ConnectionStates.{KeepsRoom};
 use crate::asking::submit_call;
 use crate::phases::{advance, answered};
 use crate::{AsyncBackend, Backend, CallRequest, DoorCalls, Load, ReceiptPolicy, UnsentCall};
-use craq_completions::{CallToken, Outcome};
 use craq_frames::ClientMessage;
 use craq_front::ProtocolCodec;
 use craq_names::Refusal;
-use craq_seat::CallReceipt;
+use craq_seat::{CallReceipt, CallToken, Outcome};
 use std::alloc::{AllocError, Global};
 use std::mem;
 

@@ -3,7 +3,7 @@ use Rattle.std.specs.Prelude.{◌≡◌, ◌<◌, ◌≤◌, ◌⊎◌, ◌+◌,
 use Rattle.craq_names.specs.declared.name.NodeName.{NodeName}
 use Rattle.craq_names.specs.declared.refusal.Refusal.{Refusal}
 use Rattle.craq_names.specs.declared.refusal.Refusal.TheVariants.{UnknownChain}
-use Rattle.craq_completions.specs.Refused.{CanRefuse}
+use Rattle.craq_seat.specs.RefusedCalls.{CanRefuse}
 use Rattle.craq_model.specs.declared.ask.Ask.{Ask}
 use Rattle.craq_store_history.specs.declared.entry.HistoryEntry.{HistoryEntry}
 

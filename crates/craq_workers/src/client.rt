@@ -4,8 +4,8 @@ ghost use Rattle.std.specs.Prelude.{◌≡◌, ◌<◌, ◌⊎◌, ◌≤◌, �
 ghost use mathlib.Core.List.{IsPrefix};
 ghost use Rattle.craq_names.specs.Limits.{greatest};
 ghost use Rattle.craq_ghost_history.specs.Histories.{AreComparable};
-ghost use Rattle.craq_completions.specs.Calls.{IsCallOf};
-ghost use Rattle.craq_completions.specs.Refused.{CanRefuse};
+ghost use Rattle.craq_seat.specs.CallCompletions.{IsCallOf};
+ghost use Rattle.craq_seat.specs.RefusedCalls.{CanRefuse};
 ghost use Rattle.craq_store_history.specs.declared.entry.HistoryEntry.{HistoryEntry};
 ghost use Rattle.craq_store_history.specs.Chains.{IsHistory};
 ghost use Rattle.craq_store_parts.specs.Recorded.{HasAccepted, HasReplied};
@@ -15,14 +15,13 @@ ghost use Rattle.craq_workers.specs.Clients.{MakesOne, RefusesAsk};
 ghost use Rattle.craq_running_chain.specs.Missed.{IsMissed};
 ghost use Rattle.craq_workers.specs.Untaken.{IsGivenUp, IsUntaken, LeavesOpen};
 
-use craq_completions::{CallToken, Completion, CompletionQueue, answer_of_call, pass_after};
 use craq_ghost_history::Named;
 use craq_model::{Answer, Ask};
 use craq_names::{Copied, NodeName, Pass, Refusal};
 use craq_node::Core;
 use craq_running_chain::{Reach, Shared, possible_refusal};
 use craq_running_node::{Asked, CallOutcome, CallRefusal, Destination, Gate};
-use craq_seat::CallReceipt;
+use craq_seat::{CallReceipt, CallToken, Completion, CompletionQueue, answer_of_call, pass_after};
 use craq_store_history::CallId;
 use craq_store_parts::{AnsweredCall, MadeAsk, RefusalMoment, Session, StoreHistory, StoreToken};
 use std::alloc::Global;

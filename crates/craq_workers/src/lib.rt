@@ -15,12 +15,12 @@ mod opening;
 mod store;
 
 pub use client::Client;
-pub use craq_completions::{CallToken, Completion, CompletionQueue};
 pub use craq_ghost_history::Named;
 pub use craq_running_chain::Reach;
 pub use craq_running_node::{
     Asked, CallOutcome, CallRefusal, Destination, Gate, OpenGate, OwnReply, Work,
 };
+pub use craq_seat::{CallToken, Completion, CompletionQueue};
 pub use craq_store_history::CallId;
 pub use craq_store_parts::{AnsweredCall, At, MadeAsk, Session};
 pub use history::{OpenedHistory, open_history};

@@ -1,5 +1,5 @@
 use Rattle.std.proofs.Common.{List, subst}
-use Rattle.craq_completions.specs.declared.queue_state.Completion.{Completion}
+use Rattle.craq_seat.specs.declared.queue_state.Completion.{Completion}
 use Rattle.craq_event_loop.specs.Belonging.{DeliversAll}
 use Rattle.craq_event_loop.proofs.event_loop.LoopConnections.take_completions.Goals as goal
 

@@ -1,6 +1,6 @@
 use Rattle.std.proofs.Common.{◌≡◌, ◌⊎◌, inr, false, subst}
 use Rattle.craq_model.specs.declared.ask.Ask.{Ask}
-use Rattle.craq_completions.specs.Refused.{IsUpdate}
+use Rattle.craq_seat.specs.RefusedCalls.{IsUpdate}
 use Rattle.craq_running_node.specs.Replies.{in_hand}
 use Rattle.craq_running_chain.proofs.Asks.{put_at_node, put_in_queue}
 use Rattle.craq_running_chain.proofs.shared.Shared.submit_own.Goals as goal

@@ -18,7 +18,7 @@ pub struct CompletionSender<T: Drop = Outcome> {
 }
 
 impl<T: Drop> Model for CompletionSender<T> {
-    ghost use Rattle.craq_completions.specs.declared.token.CallToken.{CallToken};
+    ghost use Rattle.craq_seat.specs.declared.token.CallToken.{CallToken};
 
     ghost Value = { CallToken };
 

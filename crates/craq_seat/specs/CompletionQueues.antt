@@ -1,6 +1,6 @@
 -- The view that contracts have of a completion queue.
 use Rattle.std.specs.Prelude.{ℕ, List, Bool}
-use Rattle.craq_completions.specs.declared.queue_state.Completion.{Completion}
+use Rattle.craq_seat.specs.declared.queue_state.Completion.{Completion}
 
 -- the completions in it, in the order in which they came, and how many more are expected; whether there is news of which the owner
 -- has not heard; and whether the owner sleeps, and has to be woken

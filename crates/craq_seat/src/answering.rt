@@ -1,12 +1,12 @@
 //! `answer_of_call` and `pass_after`: the reply in a receipt that is the caller's own, and the pass
 //! after it; for clients and request handlers.
 ghost use Rattle.std.specs.Prelude.{◌≡◌, ◌⊎◌, ◌↔◌, max, Err, IfOk, IfErr, IsTrue};
-ghost use Rattle.craq_completions.specs.Calls.{IsCallOf};
+ghost use Rattle.craq_seat.specs.CallCompletions.{IsCallOf};
 ghost use Rattle.craq_node_invariant.specs.Sound.{IsEncodableAnswer};
 
+use crate::CallReceipt;
 use craq_model::{Answer, Ask};
 use craq_names::{Copied, NodeName, Pass, Refusal, Same};
-use craq_seat::CallReceipt;
 use std::alloc::Global;
 
 /// Returns whether a receipt is of this request at this node, shown with this pass.

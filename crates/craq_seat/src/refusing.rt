@@ -1,7 +1,7 @@
 //! `refusal_of_call`: keeps a refusal that the request can have. It checks refusals that come over
 //! channels, of which no contract speaks; for clients.
 ghost use Rattle.std.specs.Prelude.{◌≡◌, ◌↔◌, IsTrue};
-ghost use Rattle.craq_completions.specs.Refused.{CanRefuse, CanWait, IsUpdate};
+ghost use Rattle.craq_seat.specs.RefusedCalls.{CanRefuse, CanWait, IsUpdate};
 
 use craq_commands::ReadMode;
 use craq_model::Ask;

@@ -2,9 +2,9 @@
 //! `completion_queue`, under its lock.
 ghost use Rattle.std.specs.Prelude.{◌≡◌, ◌≤◌, ◌↔◌, ◌+◌, ◌-◌, ◌++◌, [], ◌∷◌, None, false, true, IfSome, IsTrue, OnErr, OnOk};
 
+use crate::CallReceipt;
 use crate::token::CallToken;
 use craq_names::Refusal;
-use craq_seat::CallReceipt;
 use std::alloc::{AllocError, Global};
 use std::marker::Model;
 
@@ -32,7 +32,7 @@ pub(crate) struct QueueState<T: Drop> {
 
 impl<T: Drop> Model for QueueState<T> {
     ghost use Rattle.std.specs.Prelude.{◌≤◌, ◌+◌, vec_capacity, vec_len};
-    ghost use Rattle.craq_completions.specs.Queues.{QueueView};
+    ghost use Rattle.craq_seat.specs.CompletionQueues.{QueueView};
 
     ghost Value = { QueueView T };
 

@@ -1,4 +1,0 @@
-pub mod Calls
-pub mod Refused
-pub mod Sorted
-pub mod Queues

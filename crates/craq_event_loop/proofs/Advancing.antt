@@ -5,22 +5,22 @@ use Rattle.slab.proofs.SlabLemmas.{Updates-with_value}
 use Rattle.craq_names.specs.declared.refusal.Refusal.{Refusal}
 use Rattle.craq_seat.specs.Calls.{Called}
 use Rattle.craq_seat.specs.declared.token.CallToken.{CallToken}
-use Rattle.craq_session.specs.Asking.{Calling, Finishing, IsAsked, IsOutcome, IsRefusedAtOnce}
-use Rattle.craq_session.specs.ConnectionStates.{AnswersCall, Took}
-use Rattle.craq_session.specs.Halves.{IsRefusable}
-use Rattle.craq_session.specs.Turns.{Refusing}
-use Rattle.craq_session.specs.declared.asking.UnsentCall.{UnsentCall}
-use Rattle.craq_front.specs.declared.protocol_codec.ProtocolCodec.{ProtocolCodec}
-use Rattle.craq_session.specs.declared.calls.DoorCalls.{DoorCalls}
-use Rattle.craq_session.specs.declared.connection_state.ConnectionState.{ConnectionState}
-use Rattle.craq_session.specs.declared.connection_state.Phase.{Phase}
-use Rattle.craq_session.specs.declared.connection_state.Phase.TheVariants as phases
-use Rattle.craq_session.specs.declared.connection_state.Stepped.TheVariants as steps
-use Rattle.craq_session.specs.declared.call_request.CallRequest.{CallRequest}
+use Rattle.craq_event_loop.specs.SubmittedCalls.{Calling, Finishing, IsAsked, IsOutcome, IsRefusedAtOnce}
+use Rattle.craq_event_loop.specs.ConnectionStates.{AnswersCall, Took}
+use Rattle.craq_event_loop.specs.Halves.{IsRefusable}
+use Rattle.craq_event_loop.specs.Turns.{Refusing}
+use Rattle.craq_event_loop.specs.declared.submitting.UnsentCall.{UnsentCall}
+use Rattle.craq_frames.specs.declared.protocol_codec.ProtocolCodec.{ProtocolCodec}
+use Rattle.craq_event_loop.specs.declared.door_calls.DoorCalls.{DoorCalls}
+use Rattle.craq_event_loop.specs.declared.connection_state.ConnectionState.{ConnectionState}
+use Rattle.craq_event_loop.specs.declared.connection_state.Phase.{Phase}
+use Rattle.craq_event_loop.specs.declared.connection_state.Phase.TheVariants as phases
+use Rattle.craq_event_loop.specs.declared.connection_state.Stepped.TheVariants as steps
+use Rattle.craq_event_loop.specs.declared.connection_state.CallRequest.{CallRequest}
 use Rattle.craq_event_loop.specs.declared.connection.Connection.{Connection}
 use Rattle.craq_event_loop.specs.Advancing.{AsksBackend, ChangesSession, TakesSteps, none, step, call, TakesRound, rests, HasRound, HasRoundAt, next_call, under_key}
 use Rattle.craq_event_loop.specs.Belonging.{GetsOutcome, GetsCompletion, KeepsSlot}
-use Rattle.craq_session.proofs.Completions.{receipt_refusable, refusal_refusable}
+use Rattle.craq_event_loop.proofs.Completions.{receipt_refusable, refusal_refusable}
 
 -- the state where an outcome came, before it is answered and after
 came_back : {T : Type 0} → (old mid new : ConnectionState T) (outcome : Result Called Refusal) → ChangesSession old mid → GetsOutcome outcome mid new → GetsOutcome outcome old new

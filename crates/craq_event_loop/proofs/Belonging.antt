@@ -2,14 +2,14 @@
 use Rattle.std.proofs.Common.{◌≡◌, ◌≢◌, ◌≤◌, ◌<◌, ℕ, zero, suc, ◌+◌, length, take, get_or, arith, length-append, true, List, [], ◌∷◌, ◌++◌, Option, Some, None, Result, Ok, Err, OnOk, OnErr, ◌⊎◌, ◌↔◌, inl, inr, sym, refl, subst, ◌∙◌}
 use Rattle.std.specs.Io.KnownBytes.{Appends, Consumes}
 use Rattle.std.proofs.lemmas.List.{append-nil, append_assoc, take_more}
-use Rattle.craq_session.specs.Asking.{Finishing}
-use Rattle.craq_session.specs.ConnectionStates.{Holds}
-use Rattle.craq_session.specs.declared.connection_state.ConnectionState.{ConnectionState}
+use Rattle.craq_event_loop.specs.SubmittedCalls.{Finishing}
+use Rattle.craq_event_loop.specs.ConnectionStates.{Holds}
+use Rattle.craq_event_loop.specs.declared.connection_state.ConnectionState.{ConnectionState}
 use Rattle.craq_frames.specs.declared.ask.ClientMessage.{ClientMessage}
-use Rattle.craq_session.specs.declared.call_request.CallRequest.{CallRequest}
-use Rattle.craq_session.specs.declared.connection_state.Ending.TheVariants as endings
-use Rattle.craq_session.specs.declared.connection_state.Phase.{Phase}
-use Rattle.craq_session.specs.declared.connection_state.Phase.TheVariants as phases
+use Rattle.craq_event_loop.specs.declared.connection_state.CallRequest.{CallRequest}
+use Rattle.craq_event_loop.specs.declared.connection_state.Ending.TheVariants as endings
+use Rattle.craq_event_loop.specs.declared.connection_state.Phase.{Phase}
+use Rattle.craq_event_loop.specs.declared.connection_state.Phase.TheVariants as phases
 use Rattle.craq_seat.specs.declared.queue_state.Completion.{Completion}
 use Rattle.craq_seat.specs.declared.token.CallToken.{CallToken}
 use Rattle.slab.specs.Slab.{Slab, get, with_value}

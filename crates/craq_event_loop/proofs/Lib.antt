@@ -10,3 +10,9 @@ pub mod Reaching
 pub mod Rounds
 pub mod Serving
 pub mod Starved
+pub mod Completions
+pub mod ConnectionStates
+pub mod Halves
+pub mod Receipts
+pub mod Reportable
+pub mod SubmittedCalls

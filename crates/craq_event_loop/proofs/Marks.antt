@@ -9,8 +9,8 @@ use Rattle.std.proofs.lemmas.List.{append-nil, append_assoc, take_all}
 use Rattle.slab.specs.Slab.{Slab, get, with_value}
 use Rattle.slab.proofs.SlabLemmas.{Updates-with_value}
 use Rattle.craq_seat.specs.declared.token.CallToken.{CallToken}
-use Rattle.craq_session.specs.Asking.{Calling}
-use Rattle.craq_session.specs.Turns.{Refusing}
+use Rattle.craq_event_loop.specs.SubmittedCalls.{Calling}
+use Rattle.craq_event_loop.specs.Turns.{Refusing}
 use Rattle.craq_event_loop.specs.declared.connection.Connection.{Connection}
 use Rattle.craq_event_loop.specs.Advancing.{HasRoundAt, TakeRounds, most_steps}
 use Rattle.craq_event_loop.specs.Belonging.{Alone, OneByOne, OthersStay, StaysVacant, Wakes}

@@ -5,9 +5,9 @@ use Rattle.std.proofs.lemmas.List.{append_assoc}
 use Rattle.std.proofs.lemmas.List.Elements.{All-cons, All-nil}
 use Rattle.std.proofs.lemmas.List.Kept.{AllPairs-cons}
 use Rattle.std.proofs.lemmas.Bool.{cases_lt}
-use Rattle.craq_session.specs.Asking.{Calling}
-use Rattle.craq_session.specs.Turns.{Refusing}
-use Rattle.craq_session.specs.declared.connection_state.ConnectionState.{ConnectionState}
+use Rattle.craq_event_loop.specs.SubmittedCalls.{Calling}
+use Rattle.craq_event_loop.specs.Turns.{Refusing}
+use Rattle.craq_event_loop.specs.declared.connection_state.ConnectionState.{ConnectionState}
 use Rattle.craq_event_loop.specs.Advancing.{TakesSteps, none, step, call, asked_in, next_call, numbers_after}
 
 module _ {T : Type 0} (tells : List ℕ → Type 0) (refuses : Refusing) (submits : ℕ → Calling T) (old : ConnectionState T) (before : ℕ) where

@@ -3,17 +3,17 @@ use Rattle.std.proofs.Common.{◌≡◌, ◌⊎◌, ◌↔◌, ◌∙◌, ◌++�
 use Rattle.std.specs.Io.KnownBytes.{Appends, Consumes}
 use Rattle.std.proofs.lemmas.List.{append-nil}
 use Rattle.craq_seat.specs.declared.token.CallToken.{CallToken}
-use Rattle.craq_front.proofs.Known.{appends_none, appends_then, consumes_none, consumes_then}
-use Rattle.craq_session.specs.Asking.{Calling, Finishing}
-use Rattle.craq_session.specs.ConnectionStates.{AnswersCall, Continues}
-use Rattle.craq_session.specs.Turns.{Refusing}
+use Rattle.craq_frames.proofs.Known.{appends_none, appends_then, consumes_none, consumes_then}
+use Rattle.craq_event_loop.specs.SubmittedCalls.{Calling, Finishing}
+use Rattle.craq_event_loop.specs.ConnectionStates.{AnswersCall, Continues}
+use Rattle.craq_event_loop.specs.Turns.{Refusing}
 use Rattle.craq_names.specs.declared.refusal.Refusal.{Refusal}
 use Rattle.craq_seat.specs.Calls.{Called}
-use Rattle.craq_front.specs.declared.protocol_codec.ProtocolCodec.{ProtocolCodec}
-use Rattle.craq_session.specs.declared.calls.DoorCalls.{DoorCalls}
-use Rattle.craq_session.specs.declared.connection_state.ConnectionState.{ConnectionState}
-use Rattle.craq_session.specs.declared.connection_state.Phase.{Phase}
-use Rattle.craq_session.specs.declared.connection_state.Phase.TheVariants as phases
+use Rattle.craq_frames.specs.declared.protocol_codec.ProtocolCodec.{ProtocolCodec}
+use Rattle.craq_event_loop.specs.declared.door_calls.DoorCalls.{DoorCalls}
+use Rattle.craq_event_loop.specs.declared.connection_state.ConnectionState.{ConnectionState}
+use Rattle.craq_event_loop.specs.declared.connection_state.Phase.{Phase}
+use Rattle.craq_event_loop.specs.declared.connection_state.Phase.TheVariants as phases
 use Rattle.craq_event_loop.specs.declared.connection.Connection.{Connection}
 use Rattle.craq_event_loop.specs.Advancing.{HasRound, under_key}
 use Rattle.craq_event_loop.specs.Belonging.{CameAs, IsNew, Reads, TakesCompletion, Writes}

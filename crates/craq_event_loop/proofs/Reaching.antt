@@ -6,11 +6,11 @@ use Rattle.slab.proofs.SlabLemmas.{Contains-entries, Updates-with_value, length-
 use Rattle.mio.specs.declared.event.event.Event.{Event}
 use Rattle.craq_seat.specs.declared.queue_state.Completion.{Completion}
 use Rattle.craq_seat.specs.declared.token.CallToken.{CallToken}
-use Rattle.craq_session.specs.Asking.{Calling, Finishing}
-use Rattle.craq_session.specs.Turns.{Refusing}
-use Rattle.craq_session.specs.declared.connection_state.ConnectionState.{ConnectionState}
-use Rattle.craq_session.specs.declared.connection_state.Stepped.{Stepped}
-use Rattle.craq_session.specs.declared.connection_state.Stepped.TheVariants as steps
+use Rattle.craq_event_loop.specs.SubmittedCalls.{Calling, Finishing}
+use Rattle.craq_event_loop.specs.Turns.{Refusing}
+use Rattle.craq_event_loop.specs.declared.connection_state.ConnectionState.{ConnectionState}
+use Rattle.craq_event_loop.specs.declared.connection_state.Stepped.{Stepped}
+use Rattle.craq_event_loop.specs.declared.connection_state.Stepped.TheVariants as steps
 use Rattle.craq_event_loop.specs.declared.connection.Connection.{Connection}
 use Rattle.craq_event_loop.specs.declared.event_loop.LoopConnections.{LoopConnections}
 use Rattle.craq_event_loop.specs.Advancing.{HasRound, HasRoundAt, IsLast, IsNoCall, TakeRounds, TakesRound, TakesSteps, gives_way, most_steps, rests, step, under_key}

@@ -2,10 +2,10 @@
 use Rattle.std.proofs.Common.{◌≡◌, ◌↔◌, ℕ, Bool, true, false, IsTrue, List, is_some, Option, Some, None, sym, refl, subst}
 use Rattle.slab.specs.Slab.{Slab, get, with_value}
 use Rattle.slab.proofs.SlabLemmas.{Updates-with_value}
-use Rattle.craq_session.specs.ConnectionStates.{IsUnderWay}
-use Rattle.craq_session.specs.declared.connection_state.Phase.{Phase}
-use Rattle.craq_session.specs.declared.connection_state.Phase.TheVariants as phases
-use Rattle.craq_session.specs.declared.call_request.CallRequest.{CallRequest}
+use Rattle.craq_event_loop.specs.ConnectionStates.{IsUnderWay}
+use Rattle.craq_event_loop.specs.declared.connection_state.Phase.{Phase}
+use Rattle.craq_event_loop.specs.declared.connection_state.Phase.TheVariants as phases
+use Rattle.craq_event_loop.specs.declared.connection_state.CallRequest.{CallRequest}
 use Rattle.craq_event_loop.specs.declared.connection.Connection.{Connection}
 use Rattle.craq_event_loop.specs.Busy.{IsBehind, IsDone, is_waiting}
 use Rattle.craq_event_loop.specs.Serving.{HasRead, HasWritten, ReadsAt, StaysUnlessDone, WritesAt}

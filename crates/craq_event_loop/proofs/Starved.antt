@@ -2,14 +2,14 @@
 use Rattle.std.proofs.Common.{◌≡◌, ℕ, Bool, true, false, List, inl, inr, refl, sym, subst}
 use Rattle.std.proofs.Math.Logic.{∥∥₁_map}
 use Rattle.craq_frames.specs.Frame.{IsPartial}
-use Rattle.craq_front.specs.declared.protocol_codec.ProtocolCodec.{ProtocolCodec}
-use Rattle.craq_front.proofs.Fronts.{no_frame}
-use Rattle.craq_session.specs.declared.calls.DoorCalls.{DoorCalls}
-use Rattle.craq_session.specs.declared.connection_state.Phase.{Phase}
-use Rattle.craq_session.specs.declared.connection_state.Phase.TheVariants as phases
-use Rattle.craq_session.specs.declared.connection_state.Stepped.{Stepped}
-use Rattle.craq_session.specs.declared.connection_state.Stepped.TheVariants as steps
-use Rattle.craq_session.specs.ConnectionStates.{CutsOff, Found, Took}
+use Rattle.craq_frames.specs.declared.protocol_codec.ProtocolCodec.{ProtocolCodec}
+use Rattle.craq_frames.proofs.NoFrame.{no_frame}
+use Rattle.craq_event_loop.specs.declared.door_calls.DoorCalls.{DoorCalls}
+use Rattle.craq_event_loop.specs.declared.connection_state.Phase.{Phase}
+use Rattle.craq_event_loop.specs.declared.connection_state.Phase.TheVariants as phases
+use Rattle.craq_event_loop.specs.declared.connection_state.Stepped.{Stepped}
+use Rattle.craq_event_loop.specs.declared.connection_state.Stepped.TheVariants as steps
+use Rattle.craq_event_loop.specs.ConnectionStates.{CutsOff, Found, Took}
 use Rattle.craq_event_loop.specs.declared.connection.Connection.{Connection}
 use Rattle.craq_event_loop.specs.Busy.{IsBehind, LeavesNoFrame, NoneBehind, NoneForgotten, Rests}
 use Rattle.craq_event_loop.specs.declared.event_loop.LoopConnections.{LoopConnections}

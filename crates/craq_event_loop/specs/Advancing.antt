@@ -4,16 +4,16 @@ use Rattle.slab.specs.Slab.{Slab, get}
 use Rattle.craq_names.specs.declared.refusal.Refusal.{Refusal}
 use Rattle.craq_seat.specs.Calls.{Called}
 use Rattle.craq_seat.specs.declared.token.CallToken.{CallToken}
-use Rattle.craq_session.specs.Asking.{Calling, MayHaveAny}
-use Rattle.craq_session.specs.ConnectionStates.{Took}
-use Rattle.craq_session.specs.Halves.{IsRefusable}
-use Rattle.craq_session.specs.Turns.{Refusing}
-use Rattle.craq_session.specs.declared.asking.UnsentCall.{UnsentCall}
-use Rattle.craq_session.specs.declared.connection_state.ConnectionState.{ConnectionState}
-use Rattle.craq_session.specs.declared.connection_state.Phase.{Phase}
-use Rattle.craq_session.specs.declared.connection_state.Phase.TheVariants as phases
-use Rattle.craq_session.specs.declared.connection_state.Stepped.{Stepped}
-use Rattle.craq_session.specs.declared.connection_state.Stepped.TheVariants as steps
+use Rattle.craq_event_loop.specs.SubmittedCalls.{Calling, MayHaveAny}
+use Rattle.craq_event_loop.specs.ConnectionStates.{Took}
+use Rattle.craq_event_loop.specs.Halves.{IsRefusable}
+use Rattle.craq_event_loop.specs.Turns.{Refusing}
+use Rattle.craq_event_loop.specs.declared.submitting.UnsentCall.{UnsentCall}
+use Rattle.craq_event_loop.specs.declared.connection_state.ConnectionState.{ConnectionState}
+use Rattle.craq_event_loop.specs.declared.connection_state.Phase.{Phase}
+use Rattle.craq_event_loop.specs.declared.connection_state.Phase.TheVariants as phases
+use Rattle.craq_event_loop.specs.declared.connection_state.Stepped.{Stepped}
+use Rattle.craq_event_loop.specs.declared.connection_state.Stepped.TheVariants as steps
 use Rattle.craq_event_loop.specs.declared.connection.Connection.{Connection}
 use Rattle.craq_event_loop.specs.Belonging.{GetsOutcome, KeepsSlot, OneByOne}
 

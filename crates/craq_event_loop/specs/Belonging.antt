@@ -3,15 +3,15 @@ use Rattle.std.specs.Prelude.{◌≡◌, ◌≢◌, ◌⊎◌, ◌↔◌, ℕ, t
 use Rattle.std.specs.Io.KnownBytes.{Appends, Consumes}
 use Rattle.slab.specs.Slab.{Slab, get}
 use Rattle.craq_names.specs.declared.refusal.Refusal.{Refusal}
-use Rattle.craq_front.specs.Talk.{Exchanges}
+use Rattle.craq_frames.specs.Talk.{Exchanges}
 use Rattle.craq_seat.specs.Calls.{Called}
 use Rattle.craq_seat.specs.declared.queue_state.Completion.{Completion}
 use Rattle.craq_seat.specs.declared.token.CallToken.{CallToken}
-use Rattle.craq_session.specs.Asking.{Finishing, IsOutcome}
-use Rattle.craq_session.specs.ConnectionStates.{AnswersCall, Holds}
-use Rattle.craq_session.specs.declared.call_request.CallRequest.{CallRequest}
-use Rattle.craq_session.specs.declared.connection_state.ConnectionState.{ConnectionState}
-use Rattle.craq_session.specs.declared.connection_state.Phase.TheVariants as phases
+use Rattle.craq_event_loop.specs.SubmittedCalls.{Finishing, IsOutcome}
+use Rattle.craq_event_loop.specs.ConnectionStates.{AnswersCall, Holds}
+use Rattle.craq_event_loop.specs.declared.connection_state.CallRequest.{CallRequest}
+use Rattle.craq_event_loop.specs.declared.connection_state.ConnectionState.{ConnectionState}
+use Rattle.craq_event_loop.specs.declared.connection_state.Phase.TheVariants as phases
 use Rattle.craq_event_loop.specs.declared.connection.Connection.{Connection}
 
 -- the connection is new: no byte came and none is unsent, no call was asked, and its socket counts as ready

@@ -5,9 +5,9 @@ use Rattle.std.specs.VecDeque.{deque_capacity, deque_len}
 use Rattle.std.specs.declared.alloc.Global.{Global}
 use Rattle.std.specs.declared.collections.VecDeque.{VecDeque}
 use Rattle.slab.specs.Slab.{Slab, get, slab_len}
-use Rattle.craq_session.specs.ConnectionStates.{ending_of}
-use Rattle.craq_session.specs.declared.connection_state.Phase.{Phase}
-use Rattle.craq_session.specs.declared.connection_state.Phase.TheVariants as phases
+use Rattle.craq_event_loop.specs.ConnectionStates.{ending_of}
+use Rattle.craq_event_loop.specs.declared.connection_state.Phase.{Phase}
+use Rattle.craq_event_loop.specs.declared.connection_state.Phase.TheVariants as phases
 use Rattle.craq_event_loop.specs.declared.connection.Connection.{Connection}
 use Rattle.craq_event_loop.specs.declared.event_loop.LoopConnections.{LoopConnections}
 use Rattle.craq_event_loop.specs.Starved.{IsStarved}

@@ -8,3 +8,7 @@ pub mod Rounds
 pub mod Serving
 pub mod Sockets
 pub mod Starved
+pub mod ConnectionStates
+pub mod Halves
+pub mod SubmittedCalls
+pub mod Turns

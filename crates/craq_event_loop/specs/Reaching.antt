@@ -3,11 +3,11 @@ use Rattle.std.specs.Prelude.{◌≡◌, ℕ, true, false, List, [], ◌++◌, O
 use Rattle.std.specs.Io.KnownBytes.{Appends, Consumes}
 use Rattle.slab.specs.Slab.{Slab, get}
 use Rattle.craq_seat.specs.declared.token.CallToken.{CallToken}
-use Rattle.craq_session.specs.Asking.{Calling, Finishing}
-use Rattle.craq_session.specs.ConnectionStates.{Holds}
-use Rattle.craq_session.specs.Turns.{Refusing}
-use Rattle.craq_session.specs.declared.connection_state.ConnectionState.{ConnectionState}
-use Rattle.craq_session.specs.declared.connection_state.Phase.TheVariants as phases
+use Rattle.craq_event_loop.specs.SubmittedCalls.{Calling, Finishing}
+use Rattle.craq_event_loop.specs.ConnectionStates.{Holds}
+use Rattle.craq_event_loop.specs.Turns.{Refusing}
+use Rattle.craq_event_loop.specs.declared.connection_state.ConnectionState.{ConnectionState}
+use Rattle.craq_event_loop.specs.declared.connection_state.Phase.TheVariants as phases
 use Rattle.craq_event_loop.specs.declared.connection.Connection.{Connection}
 use Rattle.craq_event_loop.specs.Advancing.{TakesSteps, under_key}
 use Rattle.craq_event_loop.specs.Belonging.{GetsCompletion, SendsBytes, ReceivesBytes}

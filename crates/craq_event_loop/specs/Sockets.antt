@@ -2,8 +2,8 @@
 use Rattle.std.specs.Prelude.{◌≡◌, ◌⊎◌, ℕ, zero, suc, true, false, [], IsSome}
 use Rattle.std.specs.declared.io.ErrorKind.{ErrorKind}
 use Rattle.std.specs.declared.io.ErrorKind.TheVariants as errors
-use Rattle.craq_session.specs.ConnectionStates.{ending_of}
-use Rattle.craq_session.specs.declared.connection_state.ConnectionState.{ConnectionState}
+use Rattle.craq_event_loop.specs.ConnectionStates.{ending_of}
+use Rattle.craq_event_loop.specs.declared.connection_state.ConnectionState.{ConnectionState}
 use Rattle.craq_event_loop.specs.declared.connection.Connection.{Connection}
 use Rattle.craq_event_loop.specs.declared.socket.Moved.{Moved}
 use Rattle.craq_event_loop.specs.declared.socket.Moved.TheVariants as moves

@@ -1,17 +1,17 @@
 //! A connection: its socket and its state (`ConnectionState`), and what goes between them; called by
 //! `event_loop` and `own_thread`.
 ghost use Rattle.std.specs.Prelude.{◌≡◌, ◌≤◌, ◌<◌, ◌-◌, ◌↔◌, ◌⊎◌, true, false, length, take, not, IsTrue};
-ghost use Rattle.craq_session.specs.declared.connection_state.Phase.TheVariants.{Idle, Waits};
-ghost use Rattle.craq_session.specs.declared.call_request.CallRequest.{CallRequest};
+ghost use Rattle.craq_event_loop.specs.declared.connection_state.Phase.TheVariants.{Idle, Waits};
+ghost use Rattle.craq_event_loop.specs.declared.connection_state.CallRequest.{CallRequest};
 ghost use Rattle.craq_event_loop.specs.Starved.{IsStarved};
 
 use crate::backend::{LoopBackend, NewConnection};
+use crate::connection_state::Stepped;
 use crate::socket::{Moved, Socket};
+use crate::submitting::UnsentCall;
 use crate::traffic::ClientStream;
+use crate::{AsyncBackend, BlockingBackend, ConnectionState, Load, ReceiptPolicy};
 use craq_seat::{CallToken, Outcome};
-use craq_session::{
-    AsyncBackend, BlockingBackend, ConnectionState, Load, ReceiptPolicy, Stepped, UnsentCall,
-};
 use mio::event::Event;
 use mio::unix::SourceFd;
 use mio::{Interest, Registry};
@@ -168,7 +168,7 @@ impl<T: Drop> Connection<ClientStream, T> {
 }
 
 impl<S: Socket + Drop, T: Drop> Connection<S, T> {
-    ghost use Rattle.craq_session.specs.Asking.{called_by};
+    ghost use Rattle.craq_event_loop.specs.SubmittedCalls.{called_by};
     ghost use Rattle.craq_event_loop.specs.Reaching.{IsReachable};
 
     /// Ends the connection and hands its last state to the backend.
@@ -197,7 +197,7 @@ impl<S: Socket, T> Connection<S, T> {
     ghost use Rattle.craq_event_loop.specs.Advancing.{AsksBackend, HasRound, next_call, under_key};
     ghost use Rattle.craq_event_loop.specs.Belonging.{GetsOutcome, SendsBytes, SendsNow, ReceivesBytes, ReceivesNow, KeepsSlot, Reads, TakesCompletion, Writes};
     ghost use Rattle.craq_event_loop.specs.Busy.{GoesOn, IsBehind, IsDone, IsIdle, is_waiting};
-    ghost use Rattle.craq_session.specs.Asking.{IsReportable, called_by};
+    ghost use Rattle.craq_event_loop.specs.SubmittedCalls.{IsReportable, called_by};
     ghost use Rattle.craq_event_loop.specs.Reaching.{CompletesCall};
     ghost use Rattle.craq_event_loop.specs.Readiness.{noticed};
     ghost use Rattle.craq_event_loop.specs.Sockets.{EndsAsSocket, EndsInOrder, HasSaidAll, ReadsOn, WritesOn};

@@ -1,8 +1,8 @@
 //! A law: each call of a connection has a number of its own.
 ghost use Rattle.std.specs.Prelude.{◌≡◌, ◌≢◌, ◌≤◌, ◌+◌, ◌^◌, ◌++◌, ℕ, length};
 ghost use Rattle.std.specs.List.{AllPairs};
-ghost use Rattle.craq_session.specs.Asking.{called_by};
-ghost use Rattle.craq_session.specs.declared.connection_state.ConnectionState.{ConnectionState};
+ghost use Rattle.craq_event_loop.specs.SubmittedCalls.{called_by};
+ghost use Rattle.craq_event_loop.specs.declared.connection_state.ConnectionState.{ConnectionState};
 ghost use Rattle.craq_event_loop.specs.Advancing.{TakesSteps, asked_in, numbers_after, under_key};
 
 use crate::LoopBackend;

@@ -1,18 +1,31 @@
-//! The loops that serve connections. An event loop serves many by readiness and takes the steps of
-//! those whose bytes came; a thread of its own serves one (`serve_one`). Their backend is behind the
-//! traits `LoopBackend` and `BlockingBackend`. Code that runs in the programs.
+//! The state of a connection, and the loops that serve connections.
+//!
+//! `ConnectionState` drives a codec of `craq_frames`: it makes a call of each request, and a reply
+//! of the call's outcome, which may come later. An event loop (`EventLoop`) serves many connections
+//! by readiness and takes the steps of those whose bytes came. A thread of its own serves one
+//! (`serve_one`).
+//!
+//! The store is behind the traits `Backend`, `AsyncBackend`, `LoopBackend` and `BlockingBackend`.
+//! Code that runs in the programs.
 #![tactic(auto)]
 
 mod backend;
 mod connection;
+mod connection_state;
+mod door_calls;
 mod event_loop;
 mod laws;
 mod own_thread;
+mod phases;
 mod socket;
+mod submitting;
 mod traffic;
 
-pub use backend::{LoopBackend, NewConnection};
+pub use backend::{AsyncBackend, Backend, BlockingBackend, LoopBackend, NewConnection};
+pub use connection_state::{CallRequest, ConnectionState};
+pub use door_calls::ReceiptPolicy;
 pub use event_loop::{EventLoop, LoopSettings};
 pub use laws::each_call_has_its_number;
 pub use own_thread::serve_one;
+pub use submitting::{Load, SubmitToken};
 pub use traffic::{ClientStream, Traffic};

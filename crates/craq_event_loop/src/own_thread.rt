@@ -1,14 +1,14 @@
 //! `serve_one`: serves one connection on the calling thread, over a stream that blocks. It drives the
 //! connection of an event loop (`Connection`), which has no others here.
 ghost use Rattle.std.specs.Prelude.{◌≡◌, ◌⊎◌, IsTrue, false};
-ghost use Rattle.craq_session.specs.Asking.{called_by};
+ghost use Rattle.craq_event_loop.specs.SubmittedCalls.{called_by};
 ghost use Rattle.craq_event_loop.specs.Busy.{IsBehind, IsDone, is_waiting};
 ghost use Rattle.craq_event_loop.specs.Reaching.{IsReachable, ReachesOn};
 
 use crate::backend::NewConnection;
 use crate::connection::{Connection, MOST_STEPS, Share};
 use crate::socket::Socket;
-use craq_session::{BlockingBackend, ConnectionState, Load, ReceiptPolicy};
+use crate::{BlockingBackend, ConnectionState, Load, ReceiptPolicy};
 use std::alloc::Global;
 use std::sync::Wait;
 

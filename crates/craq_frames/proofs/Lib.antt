@@ -6,3 +6,11 @@ pub mod Tests
 pub mod Typed
 pub mod Utf8
 pub mod BothVersions
+pub mod Answering
+pub mod Conversations
+pub mod Known
+pub mod Lengths
+pub mod Nexts
+pub mod Talks
+pub mod Turning
+pub mod NoFrame

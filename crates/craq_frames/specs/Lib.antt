@@ -4,3 +4,8 @@ pub mod Reading
 pub mod Tests
 pub mod Typed
 pub mod Versions
+pub mod Allowed
+pub mod Serving
+pub mod Several
+pub mod Steps
+pub mod Talk

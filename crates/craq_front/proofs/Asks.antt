@@ -18,7 +18,7 @@ use Rattle.craq_frames.specs.declared.ask.ClientMessage.{ClientMessage}
 use Rattle.craq_frames.specs.declared.ask.ClientMessage.TheVariants as asks
 use Rattle.craq_frames.specs.Frame.{payload_limit}
 use Rattle.craq_frames.specs.Payload.{mode, update, ask, ask_encoding, AskFits, EncodesAsk, payload_version}
-use Rattle.craq_front.proofs.Lengths.{len16, len32, len64, len_pair, tagged_few}
+use Rattle.craq_frames.proofs.Lengths.{len16, len32, len64, len_pair, tagged_few}
 
 object_few : (o : ObjectId) → IsObject o → length (object o) ≤ 131
 object_few o f = len_pair (number w16 o.chain) (key o.key) 2 129 (len16 o.chain) (tagged_few (length o.key) 128 o.key f.key.few)

@@ -9,7 +9,7 @@ use Rattle.craq_frames.specs.declared.answer.ClientReply.{ClientReply}
 use Rattle.craq_frames.specs.Frame.{frame, IsPartial}
 use Rattle.craq_frames.specs.Payload.{EncodesAnswer}
 use Rattle.craq_front.specs.Exchange.{IsFrameOf, Exchanged}
-use Rattle.craq_front.proofs.Lengths.{len32}
+use Rattle.craq_frames.proofs.Lengths.{len32}
 
 -- the payload of the frame that came is decoded
 pub decoded : (m : ClientMessage) (sent payload rest : List ℕ) (r : Result ClientReply Refusal) → IsFrameOf m sent → IfOk r (λ x. EncodesAnswer x payload)

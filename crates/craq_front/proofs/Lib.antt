@@ -1,10 +1,2 @@
-pub mod Answering
 pub mod Asks
 pub mod Exchanges
-pub mod Fronts
-pub mod Known
-pub mod Lengths
-pub mod Nexts
-pub mod Conversations
-pub mod Talks
-pub mod Turning

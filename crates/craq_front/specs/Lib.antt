@@ -1,6 +1,1 @@
-pub mod Door
 pub mod Exchange
-pub mod Serving
-pub mod Several
-pub mod Steps
-pub mod Talk

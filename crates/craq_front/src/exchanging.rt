@@ -4,10 +4,10 @@ ghost use Rattle.std.specs.Io.KnownBytes.{Appends, Consumes, IsAtEnd};
 ghost use Rattle.craq_frames.specs.Frame.{frame, BeginsTooLong, IsPartial};
 ghost use Rattle.craq_front.specs.Exchange.{IsFrameOf, Exchanged};
 
-use crate::buffers::Buffers;
+use crate::buffers::{fill, flush};
 use crate::{Sink, Source};
 use bytes::BytesMut;
-use craq_frames::{ClientMessage, ClientReply, cut_off_frame, write_frame};
+use craq_frames::{Buffers, ClientMessage, ClientReply, cut_off_frame, write_frame};
 use craq_names::Refusal;
 use std::alloc::Global;
 
@@ -54,7 +54,7 @@ fn receive<S: Source>(buffers: &mut Buffers, stream: &mut S) -> Result<BytesMut,
     loop {
         match cut_off_frame(&mut buffers.input) {
             Ok(Some(payload)) => return Ok(payload),
-            Ok(None) => match buffers.fill(stream) {
+            Ok(None) => match fill(buffers, stream) {
                 Ok(0) => return Err(Refusal::Closed),
                 Ok(_) => continue,
                 Err(refusal) => return Err(refusal),
@@ -91,7 +91,7 @@ pub fn exchange<S: Source + Sink>(
 {
     let mut buffers = Buffers::new(alloc);
     frame_message(alloc, &mut buffers.output, message)?;
-    buffers.flush(stream)?;
+    flush(&mut buffers, stream)?;
     let payload = receive(&mut buffers, stream)?;
     ClientReply::decode(alloc, payload.as_slice())
 }

@@ -1,21 +1,18 @@
-//! The protocol between clients and a server over a stream of bytes: frames of requests in, frames
-//! of replies out. For servers and for the client `craq`; it knows no store. Code that runs in the
-//! programs.
+//! A connection over a stream, for one thread that waits: a client asks by `exchange`, and `serve`
+//! answers by a request handler that replies at once (`Door`).
+//!
+//! `serve` drives a codec of `craq_frames`. No store is known here. Code that runs in the programs:
+//! the client `craq` uses `exchange`. Only tests use `serve`; the server's connections are those of
+//! `craq_event_loop`.
 #![tactic(auto)]
 
 mod buffers;
 mod door;
 mod exchanging;
-mod laws;
-mod protocol_codec;
-mod replying;
 mod serving;
-mod several;
 mod stream;
 
-pub use door::{Door, is_allowed};
+pub use door::Door;
 pub use exchanging::exchange;
-pub use laws::{allowed_replies_are_short, codecs_answer};
-pub use protocol_codec::{CodecEvent, ProtocolCodec};
 pub use serving::serve;
 pub use stream::{Counted, Failed, Sink, Source, Stream};

@@ -2,11 +2,12 @@
 ghost use Rattle.std.specs.Prelude.{◌≡◌, ◌≢◌, ◌+◌, ◌-◌, ◌^◌, ◌<◌, ℕ, List, None, [], ◌++◌, false, Ok, Err, IfOk, IfErr, OnOk, OnErr};
 ghost use Rattle.std.specs.Io.KnownBytes.{Appends, Consumes, IsAtEnd};
 ghost use Rattle.craq_frames.specs.Frame.{frame};
-ghost use Rattle.craq_front.specs.Serving.{Replies, Begins, StreamFault, read_faults, write_faults, Conversation, Next, Batch};
-ghost use Rattle.craq_front.specs.Steps.{IsFirst};
+ghost use Rattle.craq_frames.specs.Serving.{Replies, Begins, StreamFault, read_faults, write_faults, Conversation, Next, Batch};
+ghost use Rattle.craq_frames.specs.Steps.{IsFirst};
 
-use crate::{CodecEvent, Door, ProtocolCodec, Sink, Source};
-use craq_frames::ClientMessage;
+use crate::buffers::{ended, fill, flush};
+use crate::{Door, Sink, Source};
+use craq_frames::{ClientMessage, CodecEvent, ProtocolCodec};
 use craq_names::Refusal;
 use std::alloc::Global;
 
@@ -145,12 +146,12 @@ pub fn serve<R: Source, W: Sink, D: Door>(
     let mut frames = 0u64;
     for _turn in 0..u64::MAX {
         let batch = answer_batch(alloc, &mut codec, door, &mut frames);
-        codec.buffers.flush(writer)?;
+        flush(&mut codec.buffers, writer)?;
         let is_drained = batch?;
         if is_drained {
-            let count = codec.buffers.fill(reader)?;
+            let count = fill(&mut codec.buffers, reader)?;
             if count == 0 {
-                return codec.buffers.ended(frames);
+                return ended(&codec.buffers, frames);
             }
         }
     }

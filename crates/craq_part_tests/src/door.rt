@@ -1,6 +1,6 @@
 //! Defines the request handler of these tests; for `rows`.
 ghost use Rattle.std.specs.Prelude.{⊤};
-ghost use Rattle.craq_front.specs.Door.{IsAllowed};
+ghost use Rattle.craq_frames.specs.Allowed.{IsAllowed};
 
 use craq_commands::Reply;
 use craq_frames::{ClientMessage, ClientReply};

@@ -5,23 +5,23 @@ use Rattle.craq_names.specs.declared.refusal.Refusal.{Refusal}
 use Rattle.craq_seat.specs.declared.token.CallToken.{CallToken}
 use Rattle.craq_frames.specs.declared.ask.ClientMessage.{ClientMessage}
 use Rattle.craq_frames.specs.declared.answer.ClientReply.{ClientReply}
-use Rattle.craq_front.specs.declared.protocol_codec.ProtocolCodec.{ProtocolCodec}
-use Rattle.craq_front.specs.Talk.{Exchanges}
+use Rattle.craq_frames.specs.declared.protocol_codec.ProtocolCodec.{ProtocolCodec}
+use Rattle.craq_frames.specs.Talk.{Exchanges}
 use Rattle.craq_seat.specs.Calls.{Called}
-use Rattle.craq_session.specs.Asking.{Calling, HasCalled, IsOutcome, IsSubmitted, called_by, directly, by_completion}
-use Rattle.craq_session.specs.ConnectionStates.{AnswersCall, Continues, Found, Holds, Took}
-use Rattle.craq_session.proofs.Halves.{needs_no_call}
-use Rattle.craq_session.specs.Halves.{asked_by}
-use Rattle.craq_session.specs.Turns.{Refusing, for_memory, kept, name_of}
-use Rattle.craq_session.specs.declared.calls.DoorCalls.{DoorCalls}
-use Rattle.craq_session.specs.declared.call_request.CallRequest.{CallRequest}
-use Rattle.craq_session.specs.declared.asking.UnsentCall.{UnsentCall}
-use Rattle.craq_session.specs.declared.connection_state.ConnectionState.{ConnectionState}
-use Rattle.craq_session.specs.declared.connection_state.Ending.TheVariants as endings
-use Rattle.craq_session.specs.declared.connection_state.Phase.{Phase}
-use Rattle.craq_session.specs.declared.connection_state.Phase.TheVariants as phases
-use Rattle.craq_session.specs.declared.connection_state.Stepped.{Stepped}
-use Rattle.craq_session.specs.declared.connection_state.Stepped.TheVariants as steps
+use Rattle.craq_event_loop.specs.SubmittedCalls.{Calling, HasCalled, IsOutcome, IsSubmitted, called_by, directly, by_completion}
+use Rattle.craq_event_loop.specs.ConnectionStates.{AnswersCall, Continues, Found, Holds, Took}
+use Rattle.craq_event_loop.proofs.Halves.{needs_no_call}
+use Rattle.craq_event_loop.specs.Halves.{asked_by}
+use Rattle.craq_event_loop.specs.Turns.{Refusing, for_memory, kept, name_of}
+use Rattle.craq_event_loop.specs.declared.door_calls.DoorCalls.{DoorCalls}
+use Rattle.craq_event_loop.specs.declared.connection_state.CallRequest.{CallRequest}
+use Rattle.craq_event_loop.specs.declared.submitting.UnsentCall.{UnsentCall}
+use Rattle.craq_event_loop.specs.declared.connection_state.ConnectionState.{ConnectionState}
+use Rattle.craq_event_loop.specs.declared.connection_state.Ending.TheVariants as endings
+use Rattle.craq_event_loop.specs.declared.connection_state.Phase.{Phase}
+use Rattle.craq_event_loop.specs.declared.connection_state.Phase.TheVariants as phases
+use Rattle.craq_event_loop.specs.declared.connection_state.Stepped.{Stepped}
+use Rattle.craq_event_loop.specs.declared.connection_state.Stepped.TheVariants as steps
 use Rattle.craq_event_loop.specs.Advancing.{AsksBackend, IsNoCall, TakesSteps, call, none, step, under_key}
 use Rattle.craq_event_loop.specs.Belonging.{GetsCompletion, SendsBytes, ReceivesBytes}
 use Rattle.craq_event_loop.specs.Reaching.{IsReachable, Reaches, begins, completes, sends, receives}

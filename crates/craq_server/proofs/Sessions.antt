@@ -12,8 +12,8 @@ use Rattle.craq_model.specs.declared.ask.Ask.{Ask}
 use Rattle.craq_model.specs.declared.ask.Ask.TheVariants as asks
 use Rattle.craq_seat.specs.RefusedCalls.{CanRefuse}
 use Rattle.craq_frames.specs.Payload.{NamesNode}
-use Rattle.craq_session.proofs.Reportable.{can_encode}
-use Rattle.craq_session.specs.declared.call_request.CallRequest.{CallRequest}
+use Rattle.craq_event_loop.proofs.Reportable.{can_encode}
+use Rattle.craq_event_loop.specs.declared.connection_state.CallRequest.{CallRequest}
 use Rattle.craq_server.specs.Refusing.{Leaps, RefusesServed}
 use Rattle.craq_seat.specs.Calls.{Called}
 use Rattle.craq_store_history.specs.declared.entry.CallId.{CallId}

@@ -12,10 +12,10 @@ use Rattle.craq_frames.specs.declared.ask.ClientMessage.TheVariants as messages
 use Rattle.craq_frames.specs.declared.answer.ClientReply.{ClientReply}
 use Rattle.craq_frames.specs.declared.answer.ClientReply.TheVariants as replies
 use Rattle.craq_seat.specs.Calls.{Called}
-use Rattle.craq_session.specs.declared.call_request.CallRequest.{CallRequest}
-use Rattle.craq_session.specs.Asking.{HasCalled, IsSubmitted, directly, by_completion}
-use Rattle.craq_session.specs.Halves.{CanComeBack, EndsTurn, NeedsNoCall, RefusesCall, asked_by, tells_none}
-use Rattle.craq_session.specs.Turns.{Refusing, IsAnswered, IsCalled, MayReplyRefused, message_of, name_of}
+use Rattle.craq_event_loop.specs.declared.connection_state.CallRequest.{CallRequest}
+use Rattle.craq_event_loop.specs.SubmittedCalls.{HasCalled, IsSubmitted, directly, by_completion}
+use Rattle.craq_event_loop.specs.Halves.{CanComeBack, EndsTurn, NeedsNoCall, RefusesCall, asked_by, tells_none}
+use Rattle.craq_event_loop.specs.Turns.{Refusing, IsAnswered, IsCalled, MayReplyRefused, message_of, name_of}
 use Rattle.craq_store_history.specs.declared.entry.CallId.{CallId}
 use Rattle.craq_store_history.specs.declared.entry.HistoryEntry.{HistoryEntry}
 use Rattle.craq_store_parts.specs.Recorded.{HasAccepted}

@@ -11,15 +11,15 @@ use Rattle.craq_frames.specs.declared.ask.ClientMessage.{ClientMessage}
 use Rattle.craq_frames.specs.declared.ask.ClientMessage.TheVariants as messages
 use Rattle.craq_frames.specs.declared.answer.ClientReply.{ClientReply}
 use Rattle.craq_frames.specs.declared.answer.ClientReply.TheVariants as replies
-use Rattle.craq_front.specs.Talk.{Exchanges}
+use Rattle.craq_frames.specs.Talk.{Exchanges}
 use Rattle.craq_seat.specs.declared.token.CallToken.{CallToken}
 use Rattle.craq_seat.specs.Calls.{Called}
-use Rattle.craq_session.specs.Asking.{called_by}
-use Rattle.craq_session.specs.declared.call_request.CallRequest.{CallRequest}
-use Rattle.craq_session.specs.declared.connection_state.ConnectionState.{ConnectionState}
-use Rattle.craq_session.specs.declared.connection_state.Phase.TheVariants.{Waits}
-use Rattle.craq_session.specs.ConnectionStates.{Holds}
-use Rattle.craq_session.specs.Turns.{IsReplyOf, message_of, name_of}
+use Rattle.craq_event_loop.specs.SubmittedCalls.{called_by}
+use Rattle.craq_event_loop.specs.declared.connection_state.CallRequest.{CallRequest}
+use Rattle.craq_event_loop.specs.declared.connection_state.ConnectionState.{ConnectionState}
+use Rattle.craq_event_loop.specs.declared.connection_state.Phase.TheVariants.{Waits}
+use Rattle.craq_event_loop.specs.ConnectionStates.{Holds}
+use Rattle.craq_event_loop.specs.Turns.{IsReplyOf, message_of, name_of}
 use Rattle.craq_store_history.specs.declared.entry.CallId.{CallId}
 use Rattle.craq_store_history.specs.declared.entry.HistoryEntry.{HistoryEntry}
 use Rattle.craq_store_history.specs.Chains.{IsHistory}

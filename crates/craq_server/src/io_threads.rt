@@ -8,12 +8,14 @@ use crate::incoming::Incoming;
 use crate::runtime::ServerRuntime;
 use crate::served_store::{ServedStore, StoreOutcome};
 use crate::store_session::StoreSession;
-use craq_event_loop::{ClientStream, EventLoop, LoopBackend, LoopSettings, NewConnection};
+use craq_event_loop::{
+    AsyncBackend, Backend, CallRequest, ClientStream, ConnectionState, EventLoop, LoopBackend,
+    LoopSettings, NewConnection, SubmitToken,
+};
 use craq_frames::Text;
 use craq_names::Refusal;
 use craq_node::Core;
 use craq_seat::{CallReceipt, Completion, CompletionQueue};
-use craq_session::{AsyncBackend, Backend, CallRequest, ConnectionState, SubmitToken};
 use craq_workers::{Gate, Named};
 use std::alloc::{AllocError, Global};
 use std::net::{Net, TcpListener, TcpStream};

@@ -1,8 +1,8 @@
 //! A law: the replies of connections stand in the store's history.
 ghost use Rattle.std.specs.Prelude.{ℕ, List, length};
 ghost use Rattle.craq_seat.specs.declared.token.CallToken.{CallToken};
-ghost use Rattle.craq_session.specs.Asking.{called_by};
-ghost use Rattle.craq_session.specs.declared.connection_state.ConnectionState.{ConnectionState};
+ghost use Rattle.craq_event_loop.specs.SubmittedCalls.{called_by};
+ghost use Rattle.craq_event_loop.specs.declared.connection_state.ConnectionState.{ConnectionState};
 ghost use Rattle.craq_event_loop.specs.Reaching.{Reaches};
 ghost use Rattle.craq_workers.specs.Stores.{Stored};
 ghost use Rattle.craq_server.specs.Refusing.{RefusesServed};

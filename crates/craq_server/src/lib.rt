@@ -22,7 +22,7 @@ mod store_session;
 pub use accepting::{ServeReport, Serving, accept, accept_with};
 pub use connections::Connections;
 pub use counters::{Counts, REFUSALS};
-pub use craq_session::ReceiptPolicy;
+pub use craq_event_loop::ReceiptPolicy;
 pub use io_threads::EventLoops;
 pub use listening::{Attempt, try_accept, wait_for_connection};
 pub use logging::Log;

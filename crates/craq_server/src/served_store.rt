@@ -2,8 +2,8 @@
 //! `io_threads`.
 ghost use Rattle.std.specs.Prelude.{◌≡◌, ◌<◌, ℕ, IfErr, IfOk, List, length};
 ghost use Rattle.craq_seat.specs.RefusedCalls.{CanRefuse};
-ghost use Rattle.craq_session.specs.Asking.{at_once};
-ghost use Rattle.craq_session.specs.Turns.{kept};
+ghost use Rattle.craq_event_loop.specs.SubmittedCalls.{at_once};
+ghost use Rattle.craq_event_loop.specs.Turns.{kept};
 ghost use Rattle.craq_server.specs.Refusing.{RefusesServed};
 ghost use Rattle.craq_server.specs.Sessions.{Connected, Finishes, IsNewSession, IsReachableAt, IsWitnessedConnection, Submits};
 ghost use Rattle.craq_server.specs.Status.{TellsStatus};
@@ -14,13 +14,13 @@ use crate::logging::Log;
 use crate::passes::Passes;
 use crate::status::status_text;
 use crate::store_session::StoreSession;
+use craq_event_loop::{
+    AsyncBackend, Backend, BlockingBackend, CallRequest, ConnectionState, Load, SubmitToken,
+};
 use craq_frames::Text;
 use craq_names::Refusal;
 use craq_node::Core;
 use craq_seat::{CallReceipt, Completion, CompletionQueue, pass_after, refusal_of_call};
-use craq_session::{
-    AsyncBackend, Backend, BlockingBackend, CallRequest, ConnectionState, Load, SubmitToken,
-};
 use craq_workers::{Asked, CallRefusal, Destination, Gate, Named, Reach, Store};
 use std::alloc::{AllocError, Global};
 use std::sync::{Arc, Wait};

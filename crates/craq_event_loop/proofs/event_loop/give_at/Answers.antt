@@ -1,5 +1,5 @@
 use Rattle.std.proofs.Common.{sym}
-use Rattle.craq_session.specs.Asking.{called_by}
+use Rattle.craq_event_loop.specs.SubmittedCalls.{called_by}
 use Rattle.craq_event_loop.proofs.Reaching.{ended_reachable}
 use Rattle.craq_event_loop.proofs.Serving.{gone_at, kept_at, reported_not}
 use Rattle.craq_event_loop.proofs.event_loop.give_at.Goals as goal

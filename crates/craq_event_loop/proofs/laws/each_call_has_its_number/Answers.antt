@@ -1,4 +1,4 @@
-use Rattle.craq_session.specs.Asking.{called_by}
+use Rattle.craq_event_loop.specs.SubmittedCalls.{called_by}
 use Rattle.craq_event_loop.proofs.Numbers as numbers
 use Rattle.craq_event_loop.specs.Advancing.{under_key}
 use Rattle.craq_event_loop.proofs.laws.each_call_has_its_number.Goals as goal

@@ -1,4 +1,4 @@
-use Rattle.craq_session.specs.Asking.{called_by}
+use Rattle.craq_event_loop.specs.SubmittedCalls.{called_by}
 use Rattle.craq_event_loop.proofs.OwnThread.{from_new}
 use Rattle.craq_event_loop.proofs.own_thread.serve_one.Goals as goal
 

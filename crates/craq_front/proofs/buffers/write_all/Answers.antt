@@ -1,7 +1,7 @@
 use Rattle.std.proofs.Common.{ℕ, List, take, drop, sym, ◌∙◌, subst, arith, length-drop}
 use Rattle.std.proofs.lemmas.List.{take_rest}
 use Rattle.std.specs.Io.KnownBytes.{Appends}
-use Rattle.craq_front.proofs.Known.{appends_then, take_more}
+use Rattle.craq_frames.proofs.Known.{appends_then, take_more}
 use Rattle.craq_front.proofs.buffers.write_all.Goals as goal
 
 pub loop-at-preserved : goal.loop-at-preserved

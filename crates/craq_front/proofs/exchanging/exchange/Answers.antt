@@ -3,7 +3,7 @@ use Rattle.std.proofs.lemmas.List.{take-append-drop}
 use Rattle.std.proofs.lemmas.Result.{err_from_is_err_and}
 use Rattle.craq_frames.specs.Frame.{frame}
 use Rattle.craq_front.specs.Exchange.{IsFrameOf}
-use Rattle.craq_front.proofs.Known.{consumes_none, appends_none}
+use Rattle.craq_frames.proofs.Known.{consumes_none, appends_none}
 use Rattle.craq_front.proofs.Exchanges.{decoded}
 use Rattle.craq_front.proofs.exchanging.exchange.Goals as goal
 

@@ -1,6 +1,6 @@
 use Rattle.std.proofs.Common.{ℕ, ◌≡◌, ◌+◌, List, [], ◌++◌, sym, ap, ◌∙◌, append_assoc, refl, arith}
 use Rattle.std.proofs.lemmas.List.{append-nil}
-use Rattle.craq_front.proofs.Conversations.{served_none, served_then, served_shorter, next_refused, next_goes_on}
+use Rattle.craq_frames.proofs.Conversations.{served_none, served_then, served_shorter, next_refused, next_goes_on}
 use Rattle.craq_front.proofs.serving.answer_batch.Goals as goal
 
 pub loop-alloc-init : goal.loop-alloc-init

@@ -1,5 +1,5 @@
 use Rattle.std.proofs.Common.{length, List, None, ℕ, ◌+◌, ◌++◌, ◌≡◌}
-use Rattle.craq_front.specs.Serving.{Served}
+use Rattle.craq_frames.specs.Serving.{Served}
 use Rattle.craq_front.proofs.serving.answer_batch.Given as goal
 
 abbrev pub invariant-loop-alloc : goal.invariant-loop-alloc

@@ -1,5 +1,5 @@
 use Rattle.std.proofs.lemmas.Result.{err_from_is_err_and}
-use Rattle.craq_front.proofs.Nexts.{refused_one, answered_one, begun_one}
+use Rattle.craq_frames.proofs.Nexts.{refused_one, answered_one, begun_one}
 use Rattle.craq_front.proofs.serving.answer_next.Goals as goal
 
 pub returns-in_err-answer_payload-in-Ask-clause-next :

@@ -1,6 +1,6 @@
 use Rattle.std.proofs.Common.{rules, ◌≡◌, None, Some, ◌∙◌}
-use Rattle.craq_front.proofs.Answering.{fewer_left, nothing_asked, one_replied, cut_off, all_replied}
-use Rattle.craq_front.proofs.Turning.{always}
+use Rattle.craq_frames.proofs.Answering.{fewer_left, nothing_asked, one_replied, cut_off, all_replied}
+use Rattle.craq_frames.proofs.Turning.{always}
 use Rattle.craq_front.proofs.serving.answer_payload.Goals as goal
 
 pub returns-in_err-asked-clause-begun : goal.returns-in_err-asked-clause-begun

@@ -1,6 +1,6 @@
 use Rattle.std.proofs.Common.{◌≡◌, ℕ, List, None}
-use Rattle.craq_front.specs.Steps.{IsFirst}
-use Rattle.craq_front.proofs.Answering.{Standing, left}
+use Rattle.craq_frames.specs.Steps.{IsFirst}
+use Rattle.craq_frames.proofs.Answering.{Standing, left}
 use Rattle.craq_front.proofs.serving.answer_payload.Given as goal
 
 abbrev pub invariant-loop-asked : goal.invariant-loop-asked

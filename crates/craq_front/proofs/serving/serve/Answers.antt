@@ -2,9 +2,9 @@ use Rattle.std.proofs.Common.{ℕ, ◌≡◌, List, [], ◌++◌, take, Ok, Err,
 use Rattle.std.proofs.lemmas.List.{append-nil, nil_from_length}
 use Rattle.std.proofs.lemmas.Result.{err_from_is_err_and}
 use Rattle.std.specs.Io.KnownBytes.{Appends}
-use Rattle.craq_front.specs.Serving.{Served, neither, reader, writer}
-use Rattle.craq_front.proofs.Known.{consumes_none, consumes_then, consumes_end, keeps_then, appends_none, appends_then}
-use Rattle.craq_front.proofs.Conversations.{served_none, write_failed, batch_refused, read_failed, no_room, ended_so, batch_served, served_on, served_further}
+use Rattle.craq_frames.specs.Serving.{Served, neither, reader, writer}
+use Rattle.craq_frames.proofs.Known.{consumes_none, consumes_then, consumes_end, keeps_then, appends_none, appends_then}
+use Rattle.craq_frames.proofs.Conversations.{served_none, write_failed, batch_refused, read_failed, no_room, ended_so, batch_served, served_on, served_further}
 use Rattle.craq_front.proofs.serving.serve.Goals.{then-is_drained+in_ok-count+else-count-eq0, else-is_drained}
 use Rattle.craq_front.proofs.serving.serve.Goals as goal
 
@@ -106,7 +106,7 @@ returns-then-count-eq0-clause-session g c =
     let all = subst (λ (x : List ℕ). Appends (g.W.Sink.contents c.loop-turn.writer) (g.W.Sink.contents c.flush.new.writer) x) unsent w.0 in
     let zero : c.in_ok-count.count ≡ 0 = c.if-count-eq0.true in
     let none : r.0 ≡ [] = nil_from_length r.0 (r.1 ∙ zero) in
-    let same : c.fill.new.self.input.items ≡ c.answer_batch-batch.new.codec.buffers.input.items = r.2 ∙ ap (λ (x : List ℕ). c.flush.new.self.input.items ++ x) none ∙ append-nil c.flush.new.self.input.items ∙ c.in_ok-flush.ensures.input in (
+    let same : c.fill.new.buffers.input.items ≡ c.answer_batch-batch.new.codec.buffers.input.items = r.2 ∙ ap (λ (x : List ℕ). c.flush.new.buffers.input.items ++ x) none ∙ append-nil c.flush.new.buffers.input.items ∙ c.in_ok-flush.ensures.input in (
       i.0,
       i.1 ++ b.0,
       neither,
@@ -114,7 +114,7 @@ returns-then-count-eq0-clause-session g c =
       appends_then (g.W.Sink.contents c.args.writer.now) (g.W.Sink.contents c.loop-turn.writer) (g.W.Sink.contents c.flush.new.writer) i.1 b.0 i.3 all,
       omega (arith, i.4, r.4),
       omega (arith, i.5, w.1),
-      ended_so g.D.Door.turn c.args.door.now c.loop-turn.door c.answer_batch-batch.new.door i.0 c.loop-turn.codec.buffers.input.items c.answer_batch-batch.new.codec.buffers.input.items i.1 b.0 c.fill.new.self.input.items
+      ended_so g.D.Door.turn c.args.door.now c.loop-turn.door c.answer_batch-batch.new.door i.0 c.loop-turn.codec.buffers.input.items c.answer_batch-batch.new.codec.buffers.input.items i.1 b.0 c.fill.new.buffers.input.items
           c.loop-turn.frames b.1 c.answer_batch-batch.new.frames c.ended.result i.7 b.4 same b.3 c.ended.ensures.ok c.ended.ensures.err,
     )
 
@@ -138,7 +138,7 @@ loop-turn-preserved g c =
             r.4 ∙ i.4,
             w.1 ∙ i.5,
             v.in_ok-count.ensures.output,
-            served_further g.D.Door.turn c.args.door.now c.loop-turn.door c.answer_batch-batch.new.door i.0 c.loop-turn.codec.buffers.input.items c.answer_batch-batch.new.codec.buffers.input.items i.1 b.0 r.0 v.fill.new.self.input.items
+            served_further g.D.Door.turn c.args.door.now c.loop-turn.door c.answer_batch-batch.new.door i.0 c.loop-turn.codec.buffers.input.items c.answer_batch-batch.new.codec.buffers.input.items i.1 b.0 r.0 v.fill.new.buffers.input.items
                 c.loop-turn.frames b.1 c.answer_batch-batch.new.frames i.7 served (r.2 ∙ ap (λ (x : List ℕ). x ++ r.0) c.in_ok-flush.ensures.input) b.3,
             omega (arith, i.8, b.3, r.1, length-append i.0 r.0, v.if-count-eq0.false),
             c.in_ok-is_drained.ensures.idle,
@@ -152,7 +152,7 @@ loop-turn-preserved g c =
             i.4,
             w.1 ∙ i.5,
             w.2,
-            served_on g.D.Door.turn c.args.door.now c.loop-turn.door c.answer_batch-batch.new.door i.0 c.loop-turn.codec.buffers.input.items c.answer_batch-batch.new.codec.buffers.input.items i.1 b.0 c.flush.new.self.input.items
+            served_on g.D.Door.turn c.args.door.now c.loop-turn.door c.answer_batch-batch.new.door i.0 c.loop-turn.codec.buffers.input.items c.answer_batch-batch.new.codec.buffers.input.items i.1 b.0 c.flush.new.buffers.input.items
                 c.loop-turn.frames b.1 c.answer_batch-batch.new.frames i.7 served c.in_ok-flush.ensures.input b.3,
             omega (arith, i.8, c.in_ok-is_drained.ensures.more (ap Ok v.if-is_drained.false) i.6),
             c.in_ok-is_drained.ensures.idle,

@@ -1,6 +1,6 @@
 use Rattle.std.proofs.Common.{List, ℕ, None, [], ◌≡◌, ◌≤◌, ◌+◌, length}
 use Rattle.std.specs.Io.KnownBytes.{Appends, Consumes}
-use Rattle.craq_front.specs.Serving.{Served}
+use Rattle.craq_frames.specs.Serving.{Served}
 use Rattle.craq_front.proofs.serving.serve.Given as goal
 
 abbrev pub invariant-loop-turn : goal.invariant-loop-turn

@@ -1,4 +1,4 @@
-use Rattle.craq_session.specs.Asking.{called_by}
+use Rattle.craq_event_loop.specs.SubmittedCalls.{called_by}
 use Rattle.craq_event_loop.specs.Reaching.{ReachesOn}
 use Rattle.craq_event_loop.proofs.connection.Connection.serve.Given as goal
 

@@ -1,5 +1,5 @@
 use Rattle.mio.specs.Events.{items}
-use Rattle.craq_session.specs.Asking.{called_by}
+use Rattle.craq_event_loop.specs.SubmittedCalls.{called_by}
 use Rattle.craq_event_loop.proofs.Reaching.{none_reachable, reported_reachable}
 use Rattle.craq_event_loop.proofs.event_loop.EventLoop.attend.Goals as goal
 

@@ -1,4 +1,4 @@
-use Rattle.craq_session.specs.Asking.{called_by}
+use Rattle.craq_event_loop.specs.SubmittedCalls.{called_by}
 use Rattle.craq_event_loop.specs.Busy.{NoneForgotten}
 use Rattle.craq_event_loop.specs.Reaching.{AreReachable}
 use Rattle.craq_event_loop.proofs.event_loop.EventLoop.attend.Given as goal

@@ -1,6 +1,6 @@
 use Rattle.std.proofs.Common.{None, ◌∙◌, ap, take}
 use Rattle.std.specs.Prelude.{⊤}
-use Rattle.craq_session.specs.Asking.{called_by}
+use Rattle.craq_event_loop.specs.SubmittedCalls.{called_by}
 use Rattle.craq_event_loop.proofs.Reaching.{brought_reachable, served_reachable}
 use Rattle.craq_event_loop.proofs.Rounds.{moved_up}
 use Rattle.craq_event_loop.proofs.event_loop.LoopConnections+ClientStream+T+P.round.Goals as goal

@@ -1,5 +1,5 @@
 use Rattle.std.proofs.Common.{◌≡◌, ◌⊎◌, List, ℕ, [], ap, inl, inr, subst, sym}
-use Rattle.craq_session.specs.Asking.{called_by}
+use Rattle.craq_event_loop.specs.SubmittedCalls.{called_by}
 use Rattle.craq_event_loop.specs.Busy.{NoneForgotten}
 use Rattle.craq_event_loop.specs.Reaching.{AreReachable}
 use Rattle.craq_event_loop.specs.Rounds.{MoveUp}

@@ -1,5 +1,5 @@
 use Rattle.std.proofs.Common.{◌∙◌, refl}
-use Rattle.craq_session.specs.Asking.{called_by}
+use Rattle.craq_event_loop.specs.SubmittedCalls.{called_by}
 use Rattle.craq_event_loop.proofs.Coming.{stays_either, waits_either}
 use Rattle.craq_event_loop.proofs.Reaching.{either_reachable}
 use Rattle.craq_event_loop.proofs.event_loop.LoopConnections+ClientStream+T+P.take_arrivals.Goals as goal

@@ -1,5 +1,5 @@
 use Rattle.std.proofs.Common.{◌≡◌, ℕ, get_or, subst}
-use Rattle.craq_session.specs.Asking.{called_by}
+use Rattle.craq_event_loop.specs.SubmittedCalls.{called_by}
 use Rattle.craq_event_loop.specs.Advancing.{HasRoundAt, most_steps}
 use Rattle.craq_event_loop.proofs.Belonging.{one_more_at}
 use Rattle.craq_event_loop.proofs.event_loop.LoopConnections.advance_all.Goals as goal

@@ -1,5 +1,5 @@
 use Rattle.std.proofs.Common.{take}
-use Rattle.craq_session.specs.Asking.{called_by}
+use Rattle.craq_event_loop.specs.SubmittedCalls.{called_by}
 use Rattle.craq_event_loop.specs.Advancing.{TakeRounds}
 use Rattle.craq_event_loop.proofs.event_loop.LoopConnections.advance_all.Given as goal
 

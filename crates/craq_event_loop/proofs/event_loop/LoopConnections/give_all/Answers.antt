@@ -1,7 +1,7 @@
 use Rattle.std.proofs.Common.{◌≡◌, ◌≤◌, ◌<◌, [], ◌∷◌, ◌++◌, ◌∙◌, ap, arith, get_or, if◌then◌else◌, is_ok, refl}
 use Rattle.std.specs.VecDeque.{deque_capacity}
 use Rattle.craq_event_loop.specs.Serving.{WritesAt}
-use Rattle.craq_session.specs.Asking.{called_by}
+use Rattle.craq_event_loop.specs.SubmittedCalls.{called_by}
 use Rattle.craq_event_loop.proofs.Belonging.{one_more_at}
 use Rattle.craq_event_loop.proofs.Marks.{all_listed, kept_all, kept_if, kept_next, left_out_if, none_kept, pushed}
 use Rattle.craq_event_loop.proofs.Reaching.{one_written_reachable}

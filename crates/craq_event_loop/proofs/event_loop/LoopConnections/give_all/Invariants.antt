@@ -1,5 +1,5 @@
 use Rattle.std.proofs.Common.{take}
-use Rattle.craq_session.specs.Asking.{called_by}
+use Rattle.craq_event_loop.specs.SubmittedCalls.{called_by}
 use Rattle.craq_event_loop.specs.Belonging.{OneByOne}
 use Rattle.craq_event_loop.specs.Busy.{ListsMarked}
 use Rattle.craq_event_loop.specs.Reaching.{AreReachable}

@@ -1,6 +1,6 @@
 use Rattle.std.proofs.Common.{◌≡◌, ◌++◌, ◌∙◌, ℕ, List, ap, drop, filter, subst, sym, take}
 use Rattle.slab.specs.Slab.{get}
-use Rattle.craq_session.specs.Asking.{called_by}
+use Rattle.craq_event_loop.specs.SubmittedCalls.{called_by}
 use Rattle.craq_event_loop.specs.Busy.{MarksJustBehind, is_marked}
 use Rattle.craq_event_loop.specs.Reaching.{AreReachable}
 use Rattle.craq_event_loop.specs.Serving.{Serves}

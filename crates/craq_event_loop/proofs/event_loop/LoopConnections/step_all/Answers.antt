@@ -1,6 +1,6 @@
 use Rattle.std.proofs.Common.{◌≡◌, ◌++◌, ◌∙◌, ap, filter, subst}
 use Rattle.slab.specs.Slab.{get}
-use Rattle.craq_session.specs.Asking.{called_by}
+use Rattle.craq_event_loop.specs.SubmittedCalls.{called_by}
 use Rattle.craq_event_loop.specs.Belonging.{OneByOne}
 use Rattle.craq_event_loop.specs.Busy.{is_marked}
 use Rattle.craq_event_loop.specs.Serving.{WritesAt}

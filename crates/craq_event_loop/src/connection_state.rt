@@ -1,0 +1,434 @@
+//! `ConnectionState`: the state of one connection whose calls are answered later; for an event loop,
+//! or for a thread of its own. Before it, for `phases`, the two halves of a request: the call that
+//! it asks for, and its reply once the call has its outcome.
+ghost use Rattle.std.specs.Prelude.{◌≡◌, ◌↔◌, Err, IfErr, IfOk, None, OnErr};
+ghost use Rattle.craq_frames.specs.Payload.{NamesNode};
+ghost use Rattle.craq_event_loop.specs.declared.connection_state.Phase.TheVariants.{Idle};
+ghost use Rattle.craq_event_loop.specs.ConnectionStates.{KeepsRoom};
+ghost use Rattle.craq_frames.specs.Allowed.{IsAllowed};
+ghost use Rattle.craq_event_loop.specs.Halves.{Asks, BeginsTurn, EndsTurn, HasOwnReceipt, HasRoom, IsClosed, IsStatusReply, MakesRoom, RefusesCall, asked_by};
+ghost use Rattle.craq_event_loop.specs.SubmittedCalls.{IsReportable};
+ghost use Rattle.craq_event_loop.specs.Turns.{IsCalled, kept, name_of};
+
+use crate::door_calls::DoorCalls;
+use crate::phases::{advance, answered};
+use crate::submitting::{UnsentCall, submit_call};
+use crate::{AsyncBackend, Backend, Load, ReceiptPolicy};
+use craq_frames::{ClientMessage, ClientReply, ProtocolCodec, is_allowed};
+use craq_model::Ask;
+use craq_names::{NodeId, NodeName, Pass, Refusal};
+use craq_seat::{CallReceipt, CallToken, Outcome, answer_of_call};
+use std::alloc::{AllocError, Global};
+use std::mem;
+
+/// The call that a request asks for.
+#[derive(Debug, Drop)]
+pub struct CallRequest {
+    pub node: NodeName,
+    pub pass: Pass,
+    pub ask: Ask,
+}
+
+/// The demand of a request: a call or the status.
+#[derive(Debug, Drop)]
+pub(crate) enum Demand {
+    Call(CallRequest),
+    Status,
+}
+
+/// The outcome of the first half of a request.
+#[derive(Debug, Drop)]
+pub(crate) enum Begun {
+    /// The request is answered, by this reply.
+    Reported(ClientReply),
+    /// This call is to be made, and its outcome to be given back.
+    Calls(CallRequest),
+}
+
+/// Returns the call of a node of the chain of the request's first object, with this pass.
+fn call_of(node: NodeId, pass: Pass, ask: Ask) -> CallRequest
+    ensures node { result.node ≡ name_of node ask }
+    ensures pass { result.pass ≡ pass }
+    ensures ask { result.ask ≡ ask }
+{
+    let node = NodeName {
+        chain: ask.chain(),
+        node,
+    };
+    CallRequest { node, pass, ask }
+}
+
+/// Returns the demand of a request.
+fn demand_of(message: ClientMessage) -> Demand
+    ensures { Asks message result }
+{
+    match message {
+        ClientMessage::Update { node, pass, update } => {
+            Demand::Call(call_of(node, pass, Ask::Update(update)))
+        }
+        ClientMessage::Read {
+            node,
+            pass,
+            mode,
+            object,
+        } => Demand::Call(call_of(node, pass, Ask::Read { mode, object })),
+        ClientMessage::Status => Demand::Status,
+    }
+}
+
+/// Returns the reply to a request for a status: its text, or `Refused(Memory)` when out of memory.
+/// Instead of a text that is too long for a reply it is `Refused(BadFrame)`.
+#[tactic(auto, using(crate::proofs::Reportable::long_status, crate::proofs::Reportable::memory_allowed, crate::proofs::Reportable::frame_allowed))]
+fn status_reply<C: Backend>(backend: &C) -> ClientReply
+    ensures reply { IsStatusReply (C.tells backend.now) result }
+    ensures allowed { IsAllowed result }
+{
+    let Ok(text) = backend.status() else {
+        return ClientReply::Refused(Refusal::Memory);
+    };
+    let reply = ClientReply::Status(text);
+    if is_allowed(&reply) {
+        reply
+    } else {
+        ClientReply::Refused(Refusal::BadFrame)
+    }
+}
+
+/// Begins a request. A status is answered at once. For a call, room for its receipt is made, and is
+/// there when the call has its outcome; without it the reply is `Refused(Memory)`, and the call is
+/// not made.
+#[tactic(auto, using(crate::proofs::Halves::status_answered, crate::proofs::Halves::memory_answered, crate::proofs::Reportable::memory_allowed))]
+pub(crate) fn begin_turn<C: Backend>(
+    backend: &C,
+    calls: &mut DoorCalls,
+    message: ClientMessage,
+) -> Begun
+    ensures begun { BeginsTurn (C.tells backend.now) calls.old.policy calls.old.receipts.items message result calls.new.receipts.items }
+    ensures policy { calls.new.policy ≡ calls.old.policy }
+    ensures receipts { calls.new.receipts.items ≡ kept calls.old.policy calls.old.receipts.items }
+    ensures room { MakesRoom calls.old message result calls.new }
+{
+    calls.begin();
+    match demand_of(message) {
+        Demand::Status => Begun::Reported(status_reply(backend)),
+        Demand::Call(request) => match calls.make_room() {
+            Ok(()) => Begun::Calls(request),
+            Err(_) => {
+                drop(request);
+                Begun::Reported(ClientReply::Refused(Refusal::Memory))
+            }
+        },
+    }
+}
+
+/// Returns the reply to the request that asked for a call, where the receipt is that of this
+/// question. The receipts are unchanged after a refusal.
+///
+/// - `Closed` exactly where the receipt is that of another call.
+/// - `Memory` also where there was no memory for a copy of the answer.
+#[tactic(auto, using(crate::proofs::Receipts::own_receipt, crate::proofs::Receipts::no_receipt))]
+fn reply_of_call(
+    alloc: Global,
+    calls: &mut DoorCalls,
+    request: &CallRequest,
+    outcome: Result<CallReceipt, Refusal>,
+) -> Result<ClientReply, Refusal>
+    requires room { HasRoom calls.old }
+    requires reportable { IsReportable outcome }
+    ensures called { IfOk result (λ reply. IsCalled calls.old.receipts.items (asked_by request.now) reply calls.new.receipts.items) }
+    ensures allowed { IfOk result (λ reply. IsAllowed reply) }
+    ensures refused { IfErr result (λ e. RefusesCall request.now outcome e) }
+    ensures encodable { IfErr result (λ e. NamesNode e) }
+    ensures closed { (result ≡ Err Refusal.Closed) ↔ IsClosed request.now outcome }
+    ensures same { OnErr result (calls.new.receipts.items ≡ calls.old.receipts.items) }
+    ensures own { HasOwnReceipt outcome calls.old.receipts.items calls.new.receipts.items }
+    ensures policy { calls.new.policy ≡ calls.old.policy }
+{
+    let receipt = outcome?;
+    let CallRequest { node, pass, ask } = request;
+    match answer_of_call(alloc, &receipt, node, ask, *pass) {
+        Ok(answer) => Ok(calls.reply_to(answer, receipt)),
+        Err(refusal) => {
+            drop(receipt);
+            Err(refusal)
+        }
+    }
+}
+
+/// Ends the request that asked for this call, with the room that `begin_turn` made. Returns the
+/// reply to the call, or its refusal; no other refusal replaces either. Of a call that was answered
+/// the reply is `Refused(Closed)` exactly where the receipt is that of another call, and
+/// `Refused(Memory)` only where there was no memory for a copy of the answer. The receipts are
+/// unchanged after a refusal.
+#[tactic(auto, using(crate::proofs::Reportable::refusal_allowed))]
+pub(crate) fn end_turn(
+    alloc: Global,
+    calls: &mut DoorCalls,
+    request: &CallRequest,
+    outcome: Result<CallReceipt, Refusal>,
+) -> ClientReply
+    requires room { HasRoom calls.old }
+    requires reportable { IsReportable outcome }
+    ensures ends { EndsTurn request.now outcome calls.old.receipts.items result calls.new.receipts.items }
+    ensures allowed { IsAllowed result }
+    ensures policy { calls.new.policy ≡ calls.old.policy }
+{
+    match reply_of_call(alloc, calls, request, outcome) {
+        Ok(reply) => reply,
+        Err(refusal) => ClientReply::Refused(refusal),
+    }
+}
+
+/// The reason why nothing is read or asked any more.
+#[derive(Debug, Clone, Copy, PartialEq, Eq)]
+pub(crate) enum Ending {
+    /// A length above 1,048,576 stands in front. Its refusal is the last reply.
+    TooLong,
+    /// Out of memory: there is no reply to the next frame.
+    Memory,
+}
+
+/// The state of a connection between two steps.
+#[derive(Drop)]
+pub(crate) enum Phase {
+    /// The next frame is looked for.
+    Idle,
+    /// This request is to be asked.
+    Asks(ClientMessage),
+    /// This call is to be made, or is under way.
+    Waits(CallRequest),
+    /// Nothing is read or asked any more.
+    Over(Ending),
+}
+
+/// Puts a phase where another was, which is dropped.
+fn put(place: &mut Phase, phase: Phase)
+    ensures { place.new ≡ phase }
+{
+    drop(mem::replace(place, phase));
+}
+
+/// The outcome of a step.
+#[derive(Debug)]
+pub(crate) enum Stepped {
+    /// There may be another step to take.
+    Goes,
+    /// A call is to be made, by `ask`, and its outcome to be given back by `answer`.
+    Calls(UnsentCall),
+    /// Less than a frame has come: more bytes are needed.
+    Starved,
+    /// Nothing can be done before unsent bytes are written or a call has its outcome; or ever
+    /// again.
+    Stays,
+}
+
+/// The state of one connection whose calls are answered later: bytes in, calls to make, their
+/// outcomes, bytes out. At most one call is under way. The unsent bytes are the frames of the
+/// replies to the frames that came, in their order. Each reply is that of a turn for its request.
+/// All its calls are made and finished in one session.
+#[derive(Drop)]
+pub struct ConnectionState<T> {
+    codec: ProtocolCodec,
+    calls: DoorCalls,
+    phase: Phase,
+    session: T,
+    ghost idle: { phase ≡ Idle → codec.asking ≡ None },
+    ghost room: { KeepsRoom phase calls },
+}
+
+impl<T> ConnectionState<T> {
+    ghost use Rattle.std.specs.Prelude.{◌≤◌, ◌⊎◌, ℕ, List, [], ◌++◌, take, drop, length, IfSome, IsTrue, OnOk};
+    ghost use Rattle.std.specs.Option.{option_copied};
+    ghost use Rattle.craq_frames.specs.declared.ask.ClientMessage.{ClientMessage};
+    ghost use Rattle.craq_frames.specs.Talk.{Exchanges};
+    ghost use Rattle.craq_event_loop.specs.SubmittedCalls.{IsAsked, IsOutcome, called_by};
+    ghost use Rattle.craq_event_loop.specs.ConnectionStates.{AnswersCall, Holds, IsUnderWay, Took, ending_of};
+
+    /// Makes the state of a new connection with its session and the policy for its receipts. Takes
+    /// no memory.
+    pub(crate) fn new(alloc: Global, session: T, policy: ReceiptPolicy) -> Self
+        ensures holds { Holds result.phase result.codec [] [] [] }
+        ensures input { result.codec.buffers.input.items ≡ [] }
+        ensures policy { result.calls.policy ≡ policy }
+        ensures receipts { result.calls.receipts.items ≡ [] }
+        ensures phase { result.phase ≡ Phase.Idle }
+        ensures session { result.session ≡ session }
+    {
+        ConnectionState {
+            codec: ProtocolCodec::new(alloc),
+            calls: DoorCalls::new(alloc, policy),
+            phase: Phase::Idle,
+            session,
+        }
+    }
+
+    /// Returns whether bytes may be received: no request is under way, and it is not over.
+    pub(crate) fn listens(&self) -> bool
+        ensures { IsTrue result ↔ (self.now.phase ≡ Phase.Idle) }
+    {
+        matches!(&self.phase, Phase::Idle)
+    }
+
+    /// Returns the reason why nothing is read or asked any more, once it is over.
+    pub(crate) fn ending(&self) -> Option<Ending>
+        ensures { result ≡ ending_of self.now.phase }
+    {
+        match &self.phase {
+            Phase::Over(ending) => Some(*ending),
+            _ => None,
+        }
+    }
+
+    /// Takes bytes that came. Finds the first request of the payload in front at once in a read of
+    /// 1,024 bytes or more. Leaves a shorter read to `step`, which looks for the next frame. Fails
+    /// only when out of memory; the bytes are lost then, and it is over.
+    pub(crate) fn receive(&mut self, alloc: Global, bytes: &[u8]) -> Result<(), AllocError>
+        requires { self.old.phase ≡ Phase.Idle }
+        ensures holds { (read written : List ℕ) (turns : Exchanges)
+            → Holds self.old.phase self.old.codec read written turns → Holds self.new.phase self.new.codec (read ++ bytes.now) written turns }
+        ensures ok { OnOk result ((self.new.phase ≡ Phase.Idle) ⊎ ((m : ClientMessage) × (self.new.phase ≡ Phase.Asks m))) }
+        ensures err { OnErr result (self.new.phase ≡ Phase.Over Ending.Memory) }
+        ensures output { self.new.codec.buffers.output.items ≡ self.old.codec.buffers.output.items }
+        ensures calls { self.new.calls ≡ self.old.calls }
+        ensures session { self.new.session ≡ self.old.session }
+    {
+        match self.codec.receive(alloc, bytes) {
+            Ok(None) => Ok(()),
+            Ok(Some(message)) => {
+                put(&mut self.phase, Phase::Asks(message));
+                Ok(())
+            }
+            Err(error) => {
+                put(&mut self.phase, Phase::Over(Ending::Memory));
+                Err(error)
+            }
+        }
+    }
+
+    /// Lends the unsent bytes.
+    pub(crate) fn unsent(&self) -> &[u8]
+        ensures { result.now ≡ self.now.codec.buffers.output.items }
+    {
+        self.codec.unsent()
+    }
+
+    /// Drops the first `count` unsent bytes, which were written.
+    pub(crate) fn wrote(&mut self, count: usize)
+        requires { count ≤ length self.old.codec.buffers.output.items }
+        ensures holds { (read written : List ℕ) (turns : Exchanges)
+            → Holds self.old.phase self.old.codec read written turns
+            → Holds self.new.phase self.new.codec read (written ++ take count self.old.codec.buffers.output.items) turns }
+        ensures output { self.new.codec.buffers.output.items ≡ drop count self.old.codec.buffers.output.items }
+        ensures input { self.new.codec.buffers.input.items ≡ self.old.codec.buffers.input.items }
+        ensures phase { self.new.phase ≡ self.old.phase }
+        ensures calls { self.new.calls ≡ self.old.calls }
+        ensures session { self.new.session ≡ self.old.session }
+    {
+        self.codec.wrote(count);
+    }
+
+    /// Lends the call that is under way.
+    pub(crate) fn request(&self) -> Option<&CallRequest>
+        ensures { IsUnderWay self.now.phase (option_copied result) }
+    {
+        match &self.phase {
+            Phase::Waits(request) => Some(request),
+            _ => None,
+        }
+    }
+
+    /// Takes a step, if there is one to take: looks for the next frame, or begins its next request.
+    /// It is over (`ending`) behind a length above 1,048,576, whose refusal is then unsent, and
+    /// when out of memory; nothing more is appended then.
+    pub(crate) fn step<C: Backend>(&mut self, alloc: Global, backend: &C) -> Stepped
+        ensures took { Took (C.tells backend.now) self.old.phase result self.new.phase self.old.codec self.new.codec self.old.calls self.new.calls }
+        ensures policy { self.new.calls.policy ≡ self.old.calls.policy }
+        ensures session { self.new.session ≡ self.old.session }
+    {
+        let phase = mem::replace(&mut self.phase, Phase::Idle);
+        let (phase, stepped) = advance(alloc, backend, &mut self.codec, &mut self.calls, phase);
+        put(&mut self.phase, phase);
+        stepped
+    }
+
+    /// Makes the call of the last step in the session, under this token. Returns its outcome at
+    /// once, a receipt or a refusal; else `None`, and a completion with this token will come
+    /// (`AsyncBackend::submit`). Where no call is under way none is made. `answer` takes the
+    /// outcome.
+    #[tactic(auto, using(crate::proofs::SubmittedCalls::asked))]
+    pub(crate) fn ask<B: AsyncBackend<Session = T>>(
+        &mut self,
+        unsent: UnsentCall,
+        backend: &B,
+        token: CallToken,
+        load: Load,
+    ) -> Option<Outcome>
+        ensures asked { IsAsked (B.refuses backend.now) (called_by (B.submits backend.now) (B.finishes backend.now) token) self.old.phase self.old.session result self.new.session }
+        ensures reportable { IfSome result (λ outcome. IsReportable outcome) }
+        ensures phase { self.new.phase ≡ self.old.phase }
+        ensures codec { self.new.codec ≡ self.old.codec }
+        ensures calls { self.new.calls ≡ self.old.calls }
+    {
+        let submit_token = unsent.make(token, load);
+        let Phase::Waits(request) = &self.phase else {
+            drop(submit_token);
+            return None;
+        };
+        submit_call(backend, &mut self.session, submit_token, request)
+    }
+
+    /// Returns the outcome of the call that is under way, by the reply of its completion, for
+    /// `answer`. The session finishes the call (`AsyncBackend::finish`). Nothing happens in it where
+    /// no call is under way.
+    #[tactic(auto, using(crate::proofs::SubmittedCalls::finished, crate::proofs::Reportable::reportable_finished))]
+    pub(crate) fn finish<B: AsyncBackend<Session = T>>(
+        &mut self,
+        backend: &B,
+        reply: B::Reply,
+    ) -> Outcome
+        ensures outcome { IsOutcome (B.finishes backend.now) self.old.phase reply self.old.session result self.new.session }
+        ensures reportable { IsReportable result }
+        ensures phase { self.new.phase ≡ self.old.phase }
+        ensures codec { self.new.codec ≡ self.old.codec }
+        ensures calls { self.new.calls ≡ self.old.calls }
+    {
+        let Phase::Waits(request) = &self.phase else {
+            drop(reply);
+            return Err(Refusal::Closed);
+        };
+        backend.finish(&mut self.session, request, reply)
+    }
+
+    /// Takes the outcome of the call that is under way: appends its reply or refusal to the unsent
+    /// bytes, and keeps the receipt behind the others (`end_turn`). Out of memory for the bytes of
+    /// the reply it is over, and nothing is appended. Unchanged where no call is under way.
+    pub(crate) fn answer(&mut self, alloc: Global, outcome: Outcome)
+        requires { IsReportable outcome }
+        ensures answers { AnswersCall self.old.phase outcome self.new.phase self.old.codec self.new.codec self.old.calls self.new.calls }
+        ensures policy { self.new.calls.policy ≡ self.old.calls.policy }
+        ensures session { self.new.session ≡ self.old.session }
+    {
+        let phase = mem::replace(&mut self.phase, Phase::Idle);
+        let phase = answered(alloc, &mut self.codec, &mut self.calls, phase, outcome);
+        put(&mut self.phase, phase);
+    }
+}
+
+impl<T: Drop> ConnectionState<T> {
+    /// Returns the receipts of all calls, in order, where they are kept; else none. Takes no
+    /// memory.
+    pub fn into_receipts(self) -> Vec<CallReceipt>
+        ensures { result.items ≡ kept self.calls.policy self.calls.receipts.items }
+    {
+        let ConnectionState {
+            codec,
+            calls,
+            phase,
+            session,
+        } = self;
+        drop(codec);
+        drop(phase);
+        drop(session);
+        calls.into_receipts()
+    }
+}

@@ -1,5 +1,0 @@
-use Rattle.craq_front.proofs.Lengths.{allowed_exactly}
-use Rattle.craq_front.proofs.laws.allowed_replies_are_short.Goals as goal
-
-pub returns : goal.returns
-returns c = allowed_exactly

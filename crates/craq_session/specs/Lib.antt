@@ -1,4 +1,0 @@
-pub mod Asking
-pub mod ConnectionStates
-pub mod Halves
-pub mod Turns

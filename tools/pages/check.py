@@ -66,7 +66,8 @@ TOP = repository.TOP
 NEWEST = {"A new command": ["Decrement"], "A new message between nodes": ["Batch"], "A new refusal": None,
           "A new message of a client, or a new reply": ["Status", "Client(?:Message|Reply)"]}
 # Files that use one of these words in another meaning.
-OTHERWISE = re.compile(r"crates/craq_front/(proofs/Conversations\.antt|specs/Serving\.antt|src/serving\.rt)$|"
+OTHERWISE = re.compile(r"crates/craq_frames/(proofs/Conversations|specs/Serving)\.antt$|"
+                       r"crates/craq_front/src/serving\.rt$|"
                        r"docs/develop/|docs/proof/(PROVED|TESTED|WRONG|PROMISE)|README\.md$|"
                        r"benchmarks/|tools/|.*/(must-fail|wrong)/")
 COUNTED = re.compile(r"\b[\d,]+ lines of definitions")

@@ -1,6 +1,6 @@
-//! `Backend`: what the connections of a server call; the served store is one. `LoopBackend` is that
-//! of an event loop and the source of its connections, `BlockingBackend` that of a thread that
-//! serves one.
+//! `Backend` and `AsyncBackend`: the backend of a server's connections; the served store is one.
+//! `LoopBackend` is that of an event loop, and the source of its connections. `BlockingBackend` is
+//! that of a thread that serves one.
 ghost use Rattle.std.specs.Prelude.{◌≡◌, ℕ, Bool, IfErr, IfOk, IfSome, List, Option, Result};
 ghost use Rattle.craq_seat.specs.declared.token.CallToken.{CallToken};
 ghost use Rattle.craq_seat.specs.declared.queue_state.Completion.{Completion};

@@ -1,4 +1,4 @@
-//! `is_allowed`: whether a request handler may give a reply.
+//! `is_allowed`: the test of the replies that a request handler may give.
 ghost use Rattle.std.specs.Prelude.{◌↔◌, IsTrue};
 ghost use Rattle.craq_frames.specs.Allowed.{IsShort, IsAllowed};
 

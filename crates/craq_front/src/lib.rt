@@ -1,9 +1,9 @@
-//! A connection over a stream, for one thread that waits: a client asks by `exchange`, and `serve`
-//! answers by a request handler that replies at once (`Door`).
+//! A connection over a stream: a client asks by `exchange`, and `serve` answers by a request handler
+//! (`Door`).
 //!
-//! `serve` drives a codec of `craq_frames`. No store is known here. Code that runs in the programs:
-//! the client `craq` uses `exchange`. Only tests use `serve`; the server's connections are those of
-//! `craq_event_loop`.
+//! `serve` drives a codec of `craq_frames`, and waits for each reply. No store is known here. Code
+//! that runs in the programs: the client `craq` uses `exchange`. Only tests use `serve`. The server's
+//! connections are those of `craq_event_loop`.
 #![tactic(auto)]
 
 mod buffers;

@@ -5,7 +5,6 @@
 
 mod batch;
 mod chain;
-mod chain_thread;
 mod rest;
 mod shared;
 mod unsent;

@@ -1,14 +1,14 @@
 //! `Shared`: the state that all threads of a store share. Sends messages and serves one request;
-//! called by `batch`, `chain_thread`, `work`, and the store and clients of `craq_workers`.
+//! called by `batch`, `work`, and the store and clients of `craq_workers`.
 ghost use Rattle.std.specs.Prelude.{◌≡◌, ◌⊎◌, ◌<◌, ◌≤◌, IfErr, IfOk, MatchResult, None, OnOk, Some, false, length, slice_get, true};
 ghost use Rattle.craq_seat.specs.RefusedCalls.{CanRefuse, IsUpdate};
 ghost use Rattle.craq_running_chain.specs.Missed.{IsMissed};
 ghost use Rattle.craq_running_chain.specs.Asks.{IsPut, IsServed, IsRejected};
 ghost use Rattle.craq_running_node.specs.Replies.{in_hand};
 
-use crate::batch::NodeBatch;
+use crate::batch::{NodeBatch, run_inline};
 use crate::chain::Chain;
-use crate::chain_thread::run_inline;
+use craq_completions::{CompletionSender, is_update, refusal_of_call};
 use craq_ghost_history::{Named, Registrar};
 use craq_model::Ask;
 use craq_names::{ChainId, NodeId, NodeName, Refusal};

@@ -2,9 +2,8 @@
 //! store of `craq_workers` makes.
 ghost use Rattle.std.specs.Prelude.{◌≡◌};
 
-use crate::batch::NodeBatch;
+use crate::batch::{NodeBatch, run_chain_thread};
 use crate::chain::Chain;
-use crate::chain_thread::run_chain_thread;
 use crate::shared::{Shared, Wakes};
 use craq_ghost_history::Named;
 use craq_names::{ChainId, NodeId, NodeName};

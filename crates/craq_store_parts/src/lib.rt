@@ -15,9 +15,7 @@ mod cause;
 mod encoding;
 mod joined_node;
 mod limits;
-mod lone_ack;
 mod made_ask;
-mod messages;
 mod recorded_book;
 mod recorded_desk;
 mod refused;
@@ -31,11 +29,11 @@ pub use call_made::CallMade;
 pub use cause::{Cause, Origin};
 use craq_ghost_history::{GhostHistory, Grant, Token, Writer};
 use craq_store_history::{HistoryEntry, StoreRule};
-pub use encoding::{Kind, Sent, encode_entries, encode_sent, lone_entry};
+pub use encoding::{
+    Kind, LoneAck, Messages, Outgoing, OwedAck, Sent, encode_entries, encode_sent, lone_entry,
+};
 pub use joined_node::{JoinedNode, open_joined};
-pub use lone_ack::LoneAck;
 pub use made_ask::MadeAsk;
-pub use messages::{Messages, Outgoing, OwedAck};
 pub use recorded_book::RecordedBook;
 pub use recorded_desk::{RecordedDesk, StepCalls};
 pub use refused::{RefusalMoment, Refused};

@@ -10,7 +10,7 @@ ghost use Rattle.craq_seat.specs.Calls.{receipt_in};
 ghost use Rattle.craq_seat.specs.Cells.{receipt_of};
 ghost use Rattle.craq_seat.specs.Numbered.{numbered_from};
 ghost use Rattle.craq_seat.specs.Taken.{TakesTransition};
-ghost use Rattle.craq_store_parts.specs.Encoded.{AreSentAs};
+ghost use Rattle.craq_running_node.specs.Encoded.{AreSentAs};
 ghost use Rattle.craq_store_history.specs.Chains.{IsHistory};
 ghost use Rattle.craq_store_history.specs.Entries.{lines_in, members_in};
 ghost use Rattle.craq_store_parts.specs.Recorded.{BookHadLinesIn, BookHasLinesIn, IsUnmoved};
@@ -18,9 +18,9 @@ ghost use Rattle.craq_store_parts.specs.Witnessed.{IsWitnessedOrder};
 
 use craq_ghost_history::Named;
 use craq_names::{NodeId, Pass, Refusal};
-use craq_running_node::messages_of_book;
+use craq_running_node::{JoinedNode, Messages, RecordedBook, messages_of_book};
 use craq_seat::{BookCell, BookEvent, Receipt};
-use craq_store_parts::{JoinedNode, Messages, RecordedBook, StoreHistory, StoreToken, StoreWriter};
+use craq_store_parts::{StoreHistory, StoreToken, StoreWriter};
 use std::alloc::Global;
 use std::marker::Model;
 

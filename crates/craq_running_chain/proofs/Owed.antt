@@ -9,10 +9,10 @@ use Rattle.craq_runs.specs.Chain.{sent_in}
 use Rattle.craq_seat.specs.declared.journal.Receipt.{Receipt}
 use Rattle.craq_seat.specs.Cells.{Celled}
 use Rattle.craq_seat.specs.Numbered.{numbered_from}
-use Rattle.craq_store_parts.specs.declared.encoding.Kind.{Kind}
-use Rattle.craq_store_parts.specs.declared.encoding.Kind.TheVariants as kinds
-use Rattle.craq_store_parts.specs.declared.encoding.Sent.{Sent}
-use Rattle.craq_store_parts.specs.Encoded.{AreSentAs, OnlySends, Sends}
+use Rattle.craq_running_node.specs.declared.encoding.Kind.{Kind}
+use Rattle.craq_running_node.specs.declared.encoding.Kind.TheVariants as kinds
+use Rattle.craq_running_node.specs.declared.encoding.Sent.{Sent}
+use Rattle.craq_running_node.specs.Encoded.{AreSentAs, OnlySends, Sends}
 use Rattle.craq_running_chain.specs.Batches.{OwesStill}
 
 as_none : (sent : List Sent) → AreSentAs sent [] → sent ≡ []

@@ -9,8 +9,8 @@ use Rattle.craq_runs.specs.Chain.{sent_in}
 use Rattle.craq_seat.specs.Cells.{Celled, receipt_of}
 use Rattle.craq_seat.specs.Numbered.{numbered_from}
 use Rattle.craq_running_node.specs.declared.steps.SeatedNode.{SeatedNode}
-use Rattle.craq_store_parts.specs.declared.encoding.Kind.TheVariants as kinds
-use Rattle.craq_store_parts.specs.Encoded.{OnlySends, lone_position}
+use Rattle.craq_running_node.specs.declared.encoding.Kind.TheVariants as kinds
+use Rattle.craq_running_node.specs.Encoded.{OnlySends, lone_position}
 use Rattle.craq_running_chain.specs.declared.unsent.Unsent.{Unsent}
 use Rattle.craq_wire.specs.Encoding.{Encodes}
 use Rattle.craq_running_node.specs.declared.inbox.Delivery.{Delivery}

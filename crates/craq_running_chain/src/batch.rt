@@ -18,11 +18,11 @@ use craq_model::Event;
 use craq_names::{ChainId, Refusal, Seq};
 use craq_node::Core;
 use craq_running_node::{
-    ArrivedEvent, Delivery, Gate, OwnAsk, OwnReply, QueuedAsk, Replies, RunningNode, SeatedNode,
-    Work, entries_of, lone_entry_of, messages_of, owed_by, refuse_asked, refuse_own, take_event,
-    take_own_ask, take_queued_ask,
+    ArrivedEvent, Delivery, Messages, OwedAck, OwnAsk, OwnReply, QueuedAsk, Replies, RunningNode,
+    SeatedNode, entries_of, lone_entry_of, messages_of, owed_by, refuse_asked, refuse_own,
+    take_event, take_own_ask, take_queued_ask,
 };
-use craq_store_parts::{Messages, OwedAck, Wire};
+use craq_store_parts::{Gate, Wire, Work};
 use std::alloc::Global;
 use std::mem;
 use std::sync::{Arc, MutexGuard, Wait};

@@ -16,10 +16,10 @@ use craq_model::Config;
 use craq_names::{ChainId, NodeId, Refusal, are_same};
 use craq_node::Core;
 use craq_running_node::{
-    Asked, CallRefusal, Delivery, Entrances, QueuedAsk, Removed, Route, RunningNode, dismiss,
-    refuse_callers,
+    Asked, Delivery, Entrances, QueuedAsk, Removed, Route, RunningNode, dismiss, refuse_callers,
 };
 use craq_seat::Opening;
+use craq_store_parts::CallRefusal;
 use crossbeam_channel::{SendError, Sender};
 use std::alloc::{AllocError, Global};
 use std::mem;

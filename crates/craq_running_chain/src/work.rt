@@ -8,8 +8,8 @@ use crate::shared::{Shared, Wakes};
 use craq_ghost_history::Named;
 use craq_names::{ChainId, NodeId, NodeName};
 use craq_node::Core;
-use craq_running_node::{Gate, RunningNode, Waiting, Work};
-use craq_store_parts::Messages;
+use craq_running_node::{Messages, RunningNode, Waiting};
+use craq_store_parts::{Gate, Work};
 use crossbeam_channel::{Receiver, Sender};
 use std::sync::{Arc, Wait};
 

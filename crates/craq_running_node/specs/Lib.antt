@@ -1,3 +1,4 @@
+pub mod Encoded
 pub mod Inboxes
 pub mod Replies
 pub mod Routes

@@ -2,12 +2,11 @@
 //! crates above.
 ghost use Rattle.std.specs.Prelude.{◌≡◌};
 
-use crate::call_refusal::CallRefusal;
 use crate::callers::CallOutcome;
 use craq_ghost_history::Named;
 use craq_names::{Pass, Refusal};
 use craq_seat::{CallToken, CompletionQueue, CompletionSender};
-use craq_store_parts::MadeAsk;
+use craq_store_parts::{CallRefusal, MadeAsk};
 use std::sync::Arc;
 
 /// A request with its caller, before its step: the pass that the caller shows, and where its

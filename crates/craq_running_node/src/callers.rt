@@ -3,11 +3,10 @@
 ghost use Rattle.std.specs.Prelude.{◌≡◌, Err, None, Ok, Some, option_map};
 ghost use Rattle.craq_running_node.specs.Replies.{IsReplyTo, recipient_of, ticket_in};
 
-use crate::call_refusal::CallRefusal;
 use craq_ghost_history::Named;
 use craq_names::Ticket;
 use craq_seat::{CompletionSender, Ticketed};
-use craq_store_parts::{AcceptedCall, AnsweredCall, StepReceipt};
+use craq_store_parts::{AcceptedCall, AnsweredCall, CallRefusal, StepReceipt};
 use std::marker::Model;
 use std::sync::Wait;
 

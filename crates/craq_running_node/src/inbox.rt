@@ -4,9 +4,9 @@ ghost use Rattle.std.specs.Prelude.{◌≡◌, ◌⊎◌};
 ghost use Rattle.craq_running_node.specs.Inboxes.{Gives, WaitsAs};
 
 use crate::asked::QueuedAsk;
-use crate::losses::Losses;
+use crate::encoding::Kind;
 use craq_ghost_history::Named;
-use craq_store_parts::{Kind, Wire};
+use craq_store_parts::{Losses, Wire};
 use crossbeam_channel::{Receiver, SendError, Sender};
 use std::alloc::{AllocError, Global};
 use std::sync::atomic::{AtomicBool, Ordering};

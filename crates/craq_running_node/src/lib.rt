@@ -1,26 +1,38 @@
 //! A node that runs: its locked seat, its inbox, its steps under the lock, and the replies of each
-//! step, which are sent once the lock is free; and the hooks round its work (`Gate`). For
-//! `craq_running_chain` and `craq_workers`; starts no threads.
+//! step, which are sent once the lock is free. For `craq_locked_chain`, `craq_running_chain` and
+//! `craq_workers`; starts no threads.
+//!
+//! Each step of a node (`RecordedDesk`), and of a chain's master (`RecordedBook`), becomes an entry
+//! of the store's history.
+//!
+//! Encodes what a step sends: all its messages, or those alone that bring entries. Tells the two
+//! kinds of steps that can wait: one that only sends an entry, and one that only acknowledges
+//! (`LoneAck`), which can be encoded after later steps.
 //! Code that runs in the programs.
 #![tactic(auto)]
 
 mod asked;
-mod call_refusal;
 mod callers;
-mod gate;
+mod encoding;
 mod inbox;
-mod losses;
+mod joined_node;
+mod limits;
 mod node;
+mod recorded_book;
+mod recorded_desk;
 mod replies;
 mod steps;
 
 pub use asked::{Asked, Destination, OwnAsk, QueuedAsk, refuse_own};
-pub use call_refusal::CallRefusal;
 pub use callers::{CallOutcome, OwnReply, PendingCaller};
-pub use gate::{Gate, OpenGate, Work};
+pub use encoding::{
+    Kind, LoneAck, Messages, Outgoing, OwedAck, Sent, encode_entries, encode_sent, lone_entry,
+};
 pub use inbox::{Delivery, Entrances, Inbox, Waiting, open_inbox};
-pub use losses::Losses;
+pub use joined_node::{JoinedNode, open_joined};
 pub use node::{Removed, Route, RunningNode};
+pub use recorded_book::RecordedBook;
+pub use recorded_desk::{RecordedDesk, StepCalls};
 pub use replies::{Replies, refuse_callers};
 pub use steps::{
     ArrivedEvent, SeatedNode, dismiss, entries_of, lone_entry_of, messages_of, messages_of_book,

@@ -4,13 +4,13 @@ ghost use Rattle.std.specs.Prelude.{◌≡◌};
 ghost use Rattle.craq_running_node.specs.Routes.{retired};
 
 use crate::inbox::{Delivery, Entrances, Inbox};
-use crate::losses::Losses;
+use crate::recorded_desk::RecordedDesk;
 use crate::steps::SeatedNode;
 use craq_ghost_history::Named;
 use craq_names::{NodeId, NodeName};
 use craq_node::Core;
 use craq_seat::TicketQueue;
-use craq_store_parts::{RecordedDesk, StoppedNode, StoreHistory};
+use craq_store_parts::{Losses, StoppedNode, StoreHistory};
 use std::alloc::Global;
 use std::sync::atomic::{AtomicBool, AtomicU64, Ordering};
 use std::sync::{Arc, Mutex, MutexGuard, OnceLock, Wait};

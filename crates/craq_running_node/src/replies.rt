@@ -3,11 +3,11 @@
 ghost use Rattle.std.specs.Prelude.{◌≡◌, ◌++◌, ◌∷◌, [], None, Some, IfSome, IsTrue, false};
 ghost use Rattle.craq_running_node.specs.Replies.{IsReplyTo, Keeps, caller_under, reply_to, without_caller};
 
-use crate::call_refusal::CallRefusal;
 use crate::callers::{PendingCaller, ReadyReply, StepOutcome};
 use craq_ghost_history::Named;
 use craq_names::{Refusal, Ticket};
 use craq_seat::TicketQueue;
+use craq_store_parts::CallRefusal;
 use std::alloc::{AllocFailed, Global};
 use std::marker::Model;
 use std::sync::Wait;

@@ -12,14 +12,15 @@ ghost use Rattle.craq_seat.specs.Calls.{Called};
 ghost use Rattle.craq_seat.specs.Cells.{receipt_of};
 ghost use Rattle.craq_store_parts.specs.Recorded.{HaveReplied, MayHappen};
 ghost use Rattle.craq_seat.specs.Numbered.{CanBeSent, numbered_from};
-ghost use Rattle.craq_store_parts.specs.declared.encoding.Kind.TheVariants as kinds;
-ghost use Rattle.craq_store_parts.specs.Encoded.{AreSentAs, OnlySends, entries_from, lone_position};
+ghost use Rattle.craq_running_node.specs.declared.encoding.Kind.TheVariants as kinds;
+ghost use Rattle.craq_running_node.specs.Encoded.{AreSentAs, OnlySends, entries_from, lone_position};
 ghost use Rattle.craq_running_node.specs.Replies.{IsReplyTo, Keeps, RefusesAsked, RefusesOwn, RefusesQueued, RefusesStep, Settles, TakesOwn, TakesQueued, TellsCallers, Waits, in_hand, is_own, others_of, own_receipt, replies_to, said_by, said_to, ticket_in, ticket_of, waiting_after, without_memory};
 
 use crate::asked::{Asked, Destination, OwnAsk, QueuedAsk};
-use crate::call_refusal::CallRefusal;
 use crate::callers::{CallOutcome, OwnReply, PendingCaller, ReadyReply, joined};
-use crate::losses::Losses;
+use crate::encoding::{LoneAck, Messages, OwedAck, Sent, encode_entries, encode_sent, lone_entry};
+use crate::recorded_book::RecordedBook;
+use crate::recorded_desk::{RecordedDesk, StepCalls};
 use crate::replies::Replies;
 use craq_ghost_history::Named;
 use craq_model::{Event, Out, Step};
@@ -27,9 +28,8 @@ use craq_names::{NodeName, Pass, Refusal, Seq, Ticket};
 use craq_node::Core;
 use craq_seat::{BookCell, CallReceipt, Cell, CompletionSender, Receipt, TicketQueue};
 use craq_store_parts::{
-    AcceptedCall, Cause, LoneAck, MadeAsk, Messages, Origin, OwedAck, RecordedBook, RecordedDesk,
-    Sent, StepCalls, StepReceipt, StoreHistory, StoreToken, encode_entries, encode_sent,
-    lone_entry,
+    AcceptedCall, CallRefusal, Cause, Losses, MadeAsk, Origin, StepReceipt, StoreHistory,
+    StoreToken,
 };
 use std::alloc::{AllocError, AllocFailed, Global};
 use std::mem;

@@ -1,7 +1,6 @@
 -- Values on their way between the parts of a store: bytes of messages that were sent, calls that were made, and refusals that give a
 -- call back.
-use Rattle.std.specs.Prelude.{◌≡◌, ℕ, List, [], ◌∷◌, Option, Result, Ok, Err, option_map}
-use Rattle.std.specs.List.{AllByRecursion}
+use Rattle.std.specs.Prelude.{◌≡◌, ℕ, List, [], Option, Result, Ok, Err, option_map}
 use Rattle.std.specs.declared.snapshot.Snapshot.{Snapshot}
 use Rattle.craq_names.specs.declared.name.NodeName.{NodeName}
 use Rattle.craq_names.specs.declared.refusal.Refusal.{Refusal}
@@ -9,8 +8,6 @@ use Rattle.craq_seat.specs.declared.journal.Receipt.{Receipt}
 use Rattle.craq_model.specs.declared.ask.Ask.{Ask}
 use Rattle.craq_model.specs.declared.message.LinkMessage.{LinkMessage}
 use Rattle.craq_wire.specs.Encoding.{Encodes}
-use Rattle.craq_store_parts.specs.declared.encoding.Kind.{Kind}
-use Rattle.craq_store_parts.specs.declared.encoding.Sent.{Sent}
 use Rattle.craq_causality.specs.Causal.{WasSent}
 use Rattle.craq_ghost_history.specs.declared.author.Author.TheVariants.{Client}
 use Rattle.craq_ghost_history.specs.Histories.{IsAdded, Written}
@@ -30,20 +27,6 @@ pub record AreSentBytes (chain : ℕ) (bytes : List ℕ) (log : List HistoryEntr
 pub record Wired : Type 0 where
   pub chain : ℕ
   pub bytes : List ℕ
-
--- in this history each of these messages was sent
-abbrev pub AreWired : ℕ → List HistoryEntry → List Sent → Type 0
-AreWired chain log sent = AllByRecursion (λ (s : Sent). AreSentBytes chain s.bytes log) sent
-
--- the view that contracts have of messages that leave a node of a chain, in order
-pub record Leaving : Type 0 where
-  pub chain : ℕ
-  pub sent : List Sent
-
--- the first of these messages leaves as these bytes of its chain, and the others are left
-abbrev pub IsOutgoing : Leaving → ℕ → Kind → Wired → Leaving → Type 0
-IsOutgoing old to kind wire new =
-    (old.sent ≡ record { to = to; kind = kind; bytes = wire.bytes } ∷ new.sent) × (wire.chain ≡ old.chain) × (new.chain ≡ old.chain)
 
 -- the view that contracts have of a request whose call was made
 pub record Made : Type 0 where

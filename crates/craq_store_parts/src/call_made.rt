@@ -44,7 +44,7 @@ impl<N: Named> CallMade<N> {
     }
 
     /// Returns a token that has seen the call. The permit stays here.
-    pub(crate) fn token(&mut self, history: &StoreHistory<N>) -> StoreToken<N>
+    pub fn token(&mut self, history: &StoreHistory<N>) -> StoreToken<N>
         ensures token { result ≡ self.old.seen }
         ensures same { self.new ≡ self.old }
     {

@@ -61,7 +61,7 @@ impl<N: Named> Origin<N> {
     }
 
     /// Returns the call, if there is one, and a grant with its permit.
-    pub(crate) fn into_parts(self) -> (Option<CallId>, StoreGrant<N>)
+    pub fn into_parts(self) -> (Option<CallId>, StoreGrant<N>)
         ensures call { result.0 ≡ self.call }
         ensures seen { result.1.seen ≡ self.seen }
         ensures permit { result.1.permit ≡ option_map permit_for result.0 }
@@ -71,7 +71,7 @@ impl<N: Named> Origin<N> {
     }
 
     /// Gives the call back, if there is one.
-    pub(crate) fn back(self) -> Option<CallMade<N>>
+    pub fn back(self) -> Option<CallMade<N>>
         ensures { result ≡ made_in self }
     {
         let Origin { call, grant } = self;

@@ -1,23 +1,21 @@
-//! The parts of a store over its history: nodes, masters, messages on their way, sessions, and
-//! calls from request to reply. What travels carries a token of the history, which has no bytes,
-//! and its type keeps the fact. `craq_running_node` and `craq_workers` can put them in place of
-//! their own.
+//! Values that go between the threads of a store, and what each of them keeps of the store's
+//! history. A message on its way, a call from request to reply, a refusal and a session each carry a
+//! token of the history. A token has no bytes, and its type keeps the fact.
 //!
-//! Encodes what a step sends: all its messages, or those alone that bring entries. Tells the two
-//! kinds of steps that can wait: one that only sends an entry, and one that only acknowledges
-//! (`LoneAck`), which can be encoded after later steps.
+//! Has also the hooks round each piece of work (`Gate`), and a count of the messages that were lost
+//! because memory ended (`Losses`). For `craq_running_node`, which records steps and sends messages,
+//! and for the crates above.
+//! Code that runs in the programs.
 #![tactic(auto)]
 
 mod answered_call;
 mod at;
 mod call_made;
+mod call_refusal;
 mod cause;
-mod encoding;
-mod joined_node;
-mod limits;
+mod gate;
+mod losses;
 mod made_ask;
-mod recorded_book;
-mod recorded_desk;
 mod refused;
 mod session;
 mod stopped_node;
@@ -26,16 +24,13 @@ mod wire;
 pub use answered_call::{Acceptance, AcceptedCall, AnsweredCall, StepReceipt};
 pub use at::At;
 pub use call_made::CallMade;
+pub use call_refusal::CallRefusal;
 pub use cause::{Cause, Origin};
 use craq_ghost_history::{GhostHistory, Grant, Token, Writer};
 use craq_store_history::{HistoryEntry, StoreRule};
-pub use encoding::{
-    Kind, LoneAck, Messages, Outgoing, OwedAck, Sent, encode_entries, encode_sent, lone_entry,
-};
-pub use joined_node::{JoinedNode, open_joined};
+pub use gate::{Gate, OpenGate, Work};
+pub use losses::Losses;
 pub use made_ask::MadeAsk;
-pub use recorded_book::RecordedBook;
-pub use recorded_desk::{RecordedDesk, StepCalls};
 pub use refused::{RefusalMoment, Refused};
 pub use session::Session;
 pub use stopped_node::StoppedNode;

@@ -26,7 +26,7 @@ impl<N: Named> Model for RefusalMoment<N> {
 
 impl<N: Named> RefusalMoment<N> {
     /// Makes the moment that the token has seen.
-    pub(crate) fn new(pass: Pass, token: StoreToken<N>) -> Self
+    pub fn new(pass: Pass, token: StoreToken<N>) -> Self
         ensures { result ≡ record { pass = pass; seen = token } }
     {
         RefusalMoment { pass, token }
@@ -80,7 +80,7 @@ impl<N: Named> Refused<N> {
     }
 
     /// Makes the refusal of a call by its node's rules, at this moment of the history.
-    pub(crate) fn by_node(refusal: Refusal, made: CallMade<N>, moment: RefusalMoment<N>) -> Self
+    pub fn by_node(refusal: Refusal, made: CallMade<N>, moment: RefusalMoment<N>) -> Self
         requires { HasRefusedCall moment.seen made.call moment.pass refusal }
         ensures { result ≡ record { refusal = refusal; back = Some made; moment = Some moment } }
     {

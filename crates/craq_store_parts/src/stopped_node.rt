@@ -33,7 +33,7 @@ impl<N: Named> Model for StoppedNode<N> {
 
 impl<N: Named> StoppedNode<N> {
     /// Makes the value of a node that stopped in the token's history.
-    pub(crate) fn new(stopped: StopReceipt, stop: Receipt, token: StoreToken<N>) -> Self
+    pub fn new(stopped: StopReceipt, stop: Receipt, token: StoreToken<N>) -> Self
         requires { HasStopped (lines_in stopped.chain token) stopped stop }
         ensures { result ≡ record { stopped = stopped; stop = stop } }
     {

@@ -15,10 +15,9 @@ use craq_ghost_history::Named;
 use craq_model::Ask;
 use craq_names::{NodeName, Pass, Refusal};
 use craq_node::Core;
-use craq_running_node::{CallRefusal, Gate};
 use craq_seat::CallReceipt;
 use craq_store_history::CallId;
-use craq_store_parts::{AnsweredCall, MadeAsk, Session, StoreToken};
+use craq_store_parts::{AnsweredCall, CallRefusal, Gate, MadeAsk, Session, StoreToken};
 use std::alloc::AllocError;
 use std::sync::Wait;
 

@@ -9,9 +9,9 @@ use craq_ghost_history::Named;
 use craq_locked_chain::{ChainBook, LockedChain};
 use craq_names::{ChainId, Refusal};
 use craq_node::Core;
-use craq_running_node::{Gate, RunningNode, SeatedNode};
+use craq_running_node::{RunningNode, SeatedNode};
 use craq_seat::CallReceipt;
-use craq_store_parts::StoreHistory;
+use craq_store_parts::{Gate, StoreHistory};
 use std::alloc::{AllocError, Global};
 use std::sync::{Arc, MutexGuard, Wait};
 

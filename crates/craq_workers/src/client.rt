@@ -20,10 +20,12 @@ use craq_model::{Answer, Ask};
 use craq_names::{Copied, NodeName, Pass, Refusal};
 use craq_node::Core;
 use craq_running_chain::{Reach, Shared, possible_refusal};
-use craq_running_node::{Asked, CallOutcome, CallRefusal, Destination, Gate};
+use craq_running_node::{Asked, CallOutcome, Destination};
 use craq_seat::{CallReceipt, CallToken, Completion, CompletionQueue, answer_of_call, pass_after};
 use craq_store_history::CallId;
-use craq_store_parts::{AnsweredCall, MadeAsk, RefusalMoment, Session, StoreHistory, StoreToken};
+use craq_store_parts::{
+    AnsweredCall, CallRefusal, Gate, MadeAsk, RefusalMoment, Session, StoreHistory, StoreToken,
+};
 use std::alloc::Global;
 use std::marker::Model;
 use std::sync::{Arc, Wait};

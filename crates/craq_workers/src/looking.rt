@@ -7,7 +7,8 @@ use crate::store::Store;
 use craq_ghost_history::Named;
 use craq_names::{NodeName, Refusal};
 use craq_node::Core;
-use craq_running_node::{Gate, RunningNode};
+use craq_running_node::RunningNode;
+use craq_store_parts::Gate;
 use std::sync::Wait;
 
 /// Returns what a function tells of the core that a node has now.

@@ -6,7 +6,7 @@ use crate::store::Store;
 use craq_ghost_history::Named;
 use craq_names::{NodeName, Refusal};
 use craq_node::Core;
-use craq_running_node::Gate;
+use craq_store_parts::Gate;
 use std::sync::Wait;
 
 impl<C: Core + Named, G: Gate> Store<C, G> {

@@ -32,13 +32,13 @@ use craq_running_chain::{
     Chain, Reach, Shared, Wakes, Worker, master_of, refuse_queued, run_worker,
 };
 use craq_running_node::{
-    Gate, OwnAsk, OwnReply, Route, RunningNode, dismiss, refuse_callers, refuse_own,
+    JoinedNode, Messages, OwnAsk, OwnReply, RecordedDesk, Route, RunningNode, StepCalls, dismiss,
+    open_joined, refuse_callers, refuse_own,
 };
 use craq_seat::{BookCell, BookEvent, Cell, Desk, Receipt};
 use craq_store_history::{HistoryEntry, StoreRule};
 use craq_store_parts::{
-    Cause, JoinedNode, Messages, Origin, RecordedDesk, Session, StepCalls, StoppedNode,
-    StoreHistory, StoreToken, StoreWriter, open_joined,
+    Cause, Gate, Origin, Session, StoppedNode, StoreHistory, StoreToken, StoreWriter,
 };
 use crossbeam_channel::{Receiver, Sender};
 use std::alloc::{AllocError, Global};

@@ -5,8 +5,8 @@ use Rattle.craq_runs.specs.Chain.{sent_in}
 use Rattle.craq_seat.specs.declared.journal.Receipt.{Receipt}
 use Rattle.craq_seat.specs.Cells.{receipt_of}
 use Rattle.craq_seat.specs.Numbered.{numbered_from}
-use Rattle.craq_store_parts.specs.Encoded.{AreSentAs, entries_from}
-use Rattle.craq_store_parts.proofs.Sending.{entries_wired}
+use Rattle.craq_running_node.specs.Encoded.{AreSentAs, entries_from}
+use Rattle.craq_running_node.proofs.Sending.{entries_wired}
 use Rattle.craq_running_node.proofs.steps.entries_of.Goals as goal
 
 pub new-requires : goal.new-requires

@@ -5,8 +5,8 @@ use Rattle.craq_runs.specs.Chain.{sent_in}
 use Rattle.craq_seat.specs.declared.journal.BookEvent.{BookEvent}
 use Rattle.craq_seat.specs.Cells.{Celled, receipt_of}
 use Rattle.craq_seat.specs.Numbered.{numbered_from}
-use Rattle.craq_store_parts.specs.Encoded.{AreSentAs}
-use Rattle.craq_store_parts.proofs.Sending.{step_wired}
+use Rattle.craq_running_node.specs.Encoded.{AreSentAs}
+use Rattle.craq_running_node.proofs.Sending.{step_wired}
 use Rattle.craq_running_node.proofs.steps.messages_of_book.Goals as goal
 
 pub new-requires : goal.new-requires

@@ -6,11 +6,11 @@ use Rattle.craq_model.specs.declared.step.Step.{Step}
 use Rattle.craq_runs.specs.Chain.{sent_in}
 use Rattle.craq_seat.specs.Cells.{Celled, receipt_of}
 use Rattle.craq_seat.specs.Numbered.{numbered_from}
-use Rattle.craq_store_parts.specs.declared.encoding.Kind.TheVariants as kinds
-use Rattle.craq_store_parts.specs.Encoded.{OnlySends}
+use Rattle.craq_running_node.specs.declared.encoding.Kind.TheVariants as kinds
+use Rattle.craq_running_node.specs.Encoded.{OnlySends}
 use Rattle.craq_store_history.specs.Entries.{lines_in}
 use Rattle.craq_store_parts.specs.Recorded.{HasStep}
-use Rattle.craq_store_parts.proofs.Sending.{lone_sent}
+use Rattle.craq_running_node.proofs.Sending.{lone_sent}
 use Rattle.craq_running_node.proofs.steps.owed_by.Goals as goal
 
 -- a conclusion from two facts of the last step, where there is an acknowledgement and so a step

@@ -1,6 +1,0 @@
-use Rattle.std.proofs.Common.{drop}
-use Rattle.craq_store_parts.proofs.SentOrder.{Goes}
-use Rattle.craq_store_parts.proofs.encoding.encode_outs.Given as goal
-
-abbrev pub invariant-loop-out : goal.invariant-loop-out
-invariant-loop-out l = Goes l.receipt l.outs l.sent.items (drop l.out-index l.outs)

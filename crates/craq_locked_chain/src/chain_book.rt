@@ -17,8 +17,8 @@ ghost use Rattle.craq_store_parts.specs.Recorded.{BookHadLinesIn, BookHasLinesIn
 ghost use Rattle.craq_store_parts.specs.Witnessed.{IsWitnessedOrder};
 
 use craq_ghost_history::Named;
-use craq_names::{NodeId, Pass, Refusal};
-use craq_running_node::{JoinedNode, Messages, RecordedBook, messages_of_book};
+use craq_names::{NodeId, Refusal};
+use craq_running_node::messages_of_book;
 use craq_seat::{BookCell, BookEvent, Receipt};
 use craq_store_parts::{StoreHistory, StoreToken, StoreWriter};
 use std::alloc::Global;
@@ -80,7 +80,7 @@ impl<N: Named> ChainBook<N> {
         ensures opening { self.new.opening ≡ self.old.opening }
         ensures ordered { IfOk result (λ r. IsWitnessedOrder token self.old.opening.name.chain event r.0 r.1) }
     {
-        self.book.take(alloc, history, event, Pass::start(), token)
+        self.book.take(alloc, history, event, token)
     }
 
     /// Lets a node join, exactly as `BookCell::take` does, after all that the token has seen. Returns

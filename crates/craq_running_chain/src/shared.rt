@@ -58,6 +58,13 @@ pub enum Reach {
     WholeChainLater,
 }
 
+/// The chain that a request goes to, and the part of it that the caller may run.
+#[derive(Drop)]
+pub struct AskedChain<'a, C: Core + Named> {
+    pub chain: &'a Chain<C>,
+    pub reach: Reach,
+}
+
 /// The way of a request to its node.
 #[derive(Clone, Copy)]
 enum RequestWay {
@@ -177,17 +184,16 @@ impl<C: Core + Named, G: Gate> Shared<C, G> {
     pub fn submit<R: Wait>(
         &self,
         rt: &R,
-        chain: &Chain<C>,
+        asked: AskedChain<'_, C>,
         ask: &Ask,
         own: OwnAsk<'_, C>,
-        reach: Reach,
     ) -> OwnReply<C>
         requires { own.made.ask ≡ ask.now }
         ensures refused { IfErr result (λ e. CanRefuse ask.now e) }
         ensures put { IsPut C.represents self.now.chain_threads own.entry.made.name ask.now own.entry.pass own.entry.at.token (in_hand result) }
     {
-        chain.rest.end();
-        match self.submit_own(rt, chain, own, reach) {
+        asked.chain.rest.end();
+        match self.submit_own(rt, asked, own) {
             Ok(found) => Ok(found),
             Err(refusal) => Err(possible_refusal(ask, refusal)),
         }
@@ -222,12 +228,12 @@ impl<C: Core + Named, G: Gate> Shared<C, G> {
     fn submit_own<R: Wait>(
         &self,
         rt: &R,
-        chain: &Chain<C>,
+        asked: AskedChain<'_, C>,
         own: OwnAsk<'_, C>,
-        reach: Reach,
     ) -> OwnReply<C>
         ensures { IsPut C.represents self.now.chain_threads own.entry.made.name own.entry.made.ask own.entry.pass own.entry.at.token (in_hand result) }
     {
+        let AskedChain { chain, reach } = asked;
         match self.way_of(chain, own.made.ask(), reach) {
             RequestWay::OwnStep => self.serve_at(rt, chain, own, Wakes::ChainThread),
             RequestWay::Inline => {

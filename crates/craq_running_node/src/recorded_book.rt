@@ -86,23 +86,23 @@ impl<N: Named> RecordedBook<N> {
         &self.cell
     }
 
-    /// Takes one step of the master, exactly as `BookCell::take` does, and adds it to the history,
-    /// after all that the token has seen. Returns also a token that has seen the step. On a refusal
-    /// nothing is changed and nothing added.
+    /// Takes one step of the master, exactly as `BookCell::take` does with the first pass, and adds it
+    /// to the history, after all that the token has seen. Returns also a token that has seen the step.
+    /// On a refusal nothing is changed and nothing added.
     pub fn take(
         &mut self,
         alloc: Global,
         history: &StoreHistory<N>,
         event: BookEvent,
-        pass: Pass,
         token: StoreToken<N>,
     ) -> Result<(Receipt, StoreToken<N>), Refusal>
         requires { IsOfStopped (lines_in self.old.opening.name.chain token) event }
-        ensures step { TakesTransition self.old self.new event pass (receipt_in result) }
+        ensures step { TakesTransition self.old self.new event 0 (receipt_in result) }
         ensures kept { IsBook self.new }
         ensures opening { self.new.opening ≡ self.old.opening }
         ensures ordered { IfOk result (λ r. IsWitnessedOrder token self.old.opening.name.chain event r.0 r.1) }
     {
+        let pass = Pass::start();
         match self.cell.take(alloc, copy_of(&event), pass) {
             Err(refusal) => {
                 drop(token);
@@ -143,7 +143,7 @@ impl<N: Named> RecordedBook<N> {
         ensures ordered { IfOk result (λ r. IsWitnessedOrder token self.old.opening.name.chain (BookEvent.Join node) r.0 r.1.1) }
     {
         let chain = self.cell.opening().name.chain;
-        match self.take(alloc, history, BookEvent::Join(node), Pass::start(), token) {
+        match self.take(alloc, history, BookEvent::Join(node), token) {
             Ok((receipt, seen)) => {
                 let mut seen = seen;
                 let joined = JoinedNode::new(NodeName { chain, node }, seen.again(history));

@@ -19,9 +19,9 @@ use craq_ghost_history::Named;
 use craq_model::{Answer, Ask};
 use craq_names::{Copied, NodeName, Pass, Refusal};
 use craq_node::Core;
-use craq_running_chain::{Reach, Shared, possible_refusal};
-use craq_running_node::{Asked, CallOutcome, Destination};
-use craq_seat::{CallReceipt, CallToken, Completion, CompletionQueue, answer_of_call, pass_after};
+use craq_running_chain::{AskedChain, Reach, Shared, possible_refusal};
+use craq_running_node::{Asked, CallOutcome, CallRefusal, Destination, Gate};
+use craq_seat::CallReceipt;
 use craq_store_history::CallId;
 use craq_store_parts::{
     AnsweredCall, CallRefusal, Gate, MadeAsk, RefusalMoment, Session, StoreHistory, StoreToken,
@@ -286,7 +286,10 @@ impl<C: Core + Named, G: Gate> Client<C, G> {
                 token: ONLY,
             },
         };
-        let found = self.shared.submit(rt, chain, ask, own, Reach::WholeChain)?;
+        let reach = Reach::WholeChain;
+        let found = self
+            .shared
+            .submit(rt, AskedChain { chain, reach }, ask, own)?;
         match found {
             Some(answered) => Ok(answered),
             None => wait_for_completion(rt, completions, ask),

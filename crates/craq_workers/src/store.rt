@@ -29,7 +29,7 @@ use craq_names::{ChainId, Copied, NodeId, NodeName, Pass, Refusal, Stamp};
 use craq_node::Core;
 use craq_place::Plan;
 use craq_running_chain::{
-    Chain, Reach, Shared, Wakes, Worker, master_of, refuse_queued, run_worker,
+    AskedChain, Chain, Reach, Shared, Wakes, Worker, master_of, refuse_queued, run_worker,
 };
 use craq_running_node::{
     JoinedNode, Messages, OwnAsk, OwnReply, RecordedDesk, Route, RunningNode, StepCalls, dismiss,
@@ -274,10 +274,11 @@ fn remove_from_book<N: Named>(
     book.take(alloc, history, BookEvent::Remove { stopped, stop }, seen)
 }
 
-/// A node that waits for the master's step that lets it join: its desk, its routing entry, and a
-/// token of what the step follows.
+/// A node that waits for the master's step that lets it join: the chain that it joins, its desk, its
+/// routing entry, and a token of what the step follows.
 #[derive(Drop)]
-struct Joining<C: Core + Named> {
+struct Joining<'a, C: Core + Named> {
+    place: &'a Chain<C>,
     name: NodeName,
     desk: Desk<C>,
     route: Route<C>,
@@ -294,30 +295,22 @@ struct Admitted<N: Named> {
 /// The master's step that let a node in: its receipt, a token that has seen it, and the node.
 type LetIn<N> = (Receipt, StoreToken<N>, Admitted<N>);
 
-/// Makes the parts of a node that joins (`Cell::open`), with stamps from this one on. Refused with
-/// `Memory` only.
+/// Makes the desk and the routing entry of a node that joins (`Cell::open`), with stamps from this
+/// one on. Refused with `Memory` only.
 fn prepare_node<C: Core + Named>(
     alloc: Global,
     name: NodeName,
     form: Form,
     stamp: Stamp,
-    seen: StoreToken<C>,
-) -> Result<Joining<C>, Refusal>
+) -> Result<(Desk<C>, Route<C>), Refusal>
     requires { 1 ≤ name.node }
-    ensures name { IfOk result (λ j. j.name ≡ name) }
-    ensures seen { IfOk result (λ j. j.seen ≡ seen) }
-    ensures cell { IfOk result (λ j. IsUnjoined C.represents name j.desk.cell) }
+    ensures cell { IfOk result (λ r. IsUnjoined C.represents name r.0.cell) }
     ensures err { IfErr result (λ e. e ≡ Refusal.Memory) }
 {
     let cell = Cell::open(alloc, name, None, form.journal, stamp)?;
     let route = route_to(alloc, &name)?;
     let desk = Desk::new(alloc, cell);
-    Ok(Joining {
-        name,
-        desk,
-        route,
-        seen,
-    })
+    Ok((desk, route))
 }
 
 impl<C: Core + Named, G: Gate> Store<C, G> {
@@ -373,7 +366,8 @@ impl<C: Core + Named, G: Gate> Store<C, G> {
             Ok(chain) => chain,
             Err(refusal) => return Err(refuse_own(own, refusal)),
         };
-        self.shared.submit(rt, chain, ask, own, reach)
+        self.shared
+            .submit(rt, AskedChain { chain, reach }, ask, own)
     }
 
     /// Takes the steps of the updates that were submitted with `Reach::WholeChainLater` and wait for
@@ -644,8 +638,15 @@ impl<C: Core + Named + Send + 'static, G: Gate + Send + Sync + 'static> Store<C,
         }
         let stamp = next(book.cell().stamp())?;
         let mut hired = Vec::with_capacity(self.alloc, 2)?;
-        let joining = prepare_node(self.alloc, *name, self.form, stamp, seen)?;
-        match self.join_opened(rt, place, &mut book, joining, &mut hired) {
+        let (desk, route) = prepare_node(self.alloc, *name, self.form, stamp)?;
+        let joining = Joining {
+            place,
+            name: *name,
+            desk,
+            route,
+            seen,
+        };
+        match self.join_opened(rt, &mut book, joining, &mut hired) {
             Ok(joined) => {
                 let sent = book.messages(self.alloc, &self.shared.history);
                 drop(book);
@@ -666,19 +667,18 @@ impl<C: Core + Named + Send + 'static, G: Gate + Send + Sync + 'static> Store<C,
     fn hire_workers<R: Threads + Wait + Copy + Send + 'static>(
         &self,
         rt: R,
-        place: &Chain<C>,
-        route: &Route<C>,
+        joining: &Joining<'_, C>,
         form: Form,
         hired: &mut Vec<JoinHandle<()>>,
     ) -> Result<(), Refusal>
         ensures refused { IfErr result (λ e. (e ≡ Refusal.Closed) ⊎ (e ≡ Refusal.Memory)) }
-        ensures hired { OnOk result (length hired.new.items ≡ length hired.old.items + length (node_posts form.chain_threads (option_map (λ n. n.value.name) route.now.node))) }
+        ensures hired { OnOk result (length hired.new.items ≡ length hired.old.items + length (node_posts form.chain_threads (option_map (λ n. n.value.name) joining.now.route.node))) }
     {
         let mut workers = Vec::new(self.alloc);
-        add_workers(route, form, &mut workers)?;
+        add_workers(&joining.route, form, &mut workers)?;
         for worker in workers {
             hired.reserve(1)?;
-            hired.push(hire(rt, &self.shared, worker, place.alive(&rt)?)?)?;
+            hired.push(hire(rt, &self.shared, worker, joining.place.alive(&rt)?)?)?;
         }
         Ok(())
     }
@@ -689,20 +689,19 @@ impl<C: Core + Named + Send + 'static, G: Gate + Send + Sync + 'static> Store<C,
     fn join_opened<R: Threads + Wait + Copy + Send + 'static>(
         &self,
         rt: R,
-        place: &Chain<C>,
         book: &mut ChainBook<C>,
-        joining: Joining<C>,
+        joining: Joining<'_, C>,
         hired: &mut Vec<JoinHandle<()>>,
     ) -> Result<(Receipt, StoreToken<C>), Refusal>
         requires cell { IsUnjoined C.represents joining.name joining.desk.cell }
         requires chain { joining.name.chain ≡ book.old.opening.name.chain }
-        ensures joined { IfOk result (λ r. IsWitnessedJoin joining.seen joining.name r.0 r.1) }
+        ensures joined { IfOk result (λ r. IsWitnessedJoin joining.entry.seen joining.entry.name r.0 r.1) }
         ensures refused { IfErr result (λ e. CanJoin e) }
     {
         let mut joining = joining;
-        match self.let_join(rt, place, book, &mut joining, hired) {
+        match self.let_join(rt, book, &mut joining, hired) {
             Ok((receipt, token, admitted)) => {
-                self.seat(&rt, place, joining, admitted)?;
+                self.seat(&rt, joining, admitted)?;
                 Ok((receipt, token))
             }
             Err(refusal) => {
@@ -717,9 +716,8 @@ impl<C: Core + Named + Send + 'static, G: Gate + Send + Sync + 'static> Store<C,
     fn let_join<R: Threads + Wait + Copy + Send + 'static>(
         &self,
         rt: R,
-        place: &Chain<C>,
         book: &mut ChainBook<C>,
-        joining: &mut Joining<C>,
+        joining: &mut Joining<'_, C>,
         hired: &mut Vec<JoinHandle<()>>,
     ) -> Result<LetIn<C>, Refusal>
         requires { joining.old.name.chain ≡ book.old.opening.name.chain }
@@ -729,8 +727,8 @@ impl<C: Core + Named + Send + 'static, G: Gate + Send + Sync + 'static> Store<C,
         ensures right { IfOk result (λ r. (r.2.writer.author ≡ Author.Node joining.old.name.chain joining.old.name.node) × (r.2.writer.seen ≡ [])) }
         ensures same { (joining.new.name ≡ joining.old.name) × (joining.new.desk ≡ joining.old.desk) }
     {
-        self.hire_workers(rt, place, &joining.route, self.form, hired)?;
-        place.make_room(&rt)?;
+        self.hire_workers(rt, joining, self.form, hired)?;
+        joining.place.make_room(&rt)?;
         let mut registrar = self.shared.registrar.lock(&rt);
         registrar.make_room()?;
         let history = &self.shared.history;
@@ -753,8 +751,7 @@ impl<C: Core + Named + Send + 'static, G: Gate + Send + Sync + 'static> Store<C,
     fn seat<R: Wait>(
         &self,
         rt: &R,
-        place: &Chain<C>,
-        joining: Joining<C>,
+        joining: Joining<'_, C>,
         admitted: Admitted<C>,
     ) -> Result<(), Refusal>
         requires cell { IsUnjoined C.represents joining.name joining.desk.cell }
@@ -763,6 +760,7 @@ impl<C: Core + Named + Send + 'static, G: Gate + Send + Sync + 'static> Store<C,
         ensures { IfErr result (λ e. e ≡ Refusal.Memory) }
     {
         let Joining {
+            place,
             name: _,
             desk,
             route,

@@ -8,7 +8,6 @@ ghost use Rattle.craq_running_node.specs.Replies.{in_hand};
 
 use crate::batch::{NodeBatch, run_inline};
 use crate::chain::Chain;
-use craq_completions::{CompletionSender, is_update, refusal_of_call};
 use craq_ghost_history::{Named, Registrar};
 use craq_model::Ask;
 use craq_names::{ChainId, NodeId, NodeName, Refusal};

@@ -1,13 +1,19 @@
 //! `PendingCaller` and `ReadyReply`: a caller that waits at a node, and a reply on its way to its
-//! caller; for `replies` and `steps`.
-ghost use Rattle.std.specs.Prelude.{◌≡◌, Err, None, Ok, Some, option_map};
-ghost use Rattle.craq_running_node.specs.Replies.{IsReplyTo, recipient_of, ticket_in};
+//! caller. How a caller begins to wait, and how all of a node's callers are refused. For `steps` and
+//! the crates above.
+ghost use Rattle.std.specs.Prelude.{◌≡◌, [], Err, IfErr, None, Ok, OnOk, Some, option_map};
+ghost use Rattle.craq_running_node.specs.Replies.{IsReplyTo, Waits, recipient_of, ticket_in};
 
+use crate::asked::Destination;
+use crate::steps::{Replies, SeatedNode};
 use craq_ghost_history::Named;
-use craq_names::Ticket;
-use craq_seat::{CompletionSender, Ticketed};
+use craq_names::{Refusal, Ticket};
+use craq_node::Core;
+use craq_seat::{CompletionSender, TicketQueue, Ticketed};
 use craq_store_parts::{AcceptedCall, AnsweredCall, CallRefusal, StepReceipt};
+use std::alloc::{AllocFailed, Global};
 use std::marker::Model;
+use std::mem;
 use std::sync::Wait;
 
 /// The outcome of a call: its reply with the call that its node accepted, or the refusal. A
@@ -160,4 +166,76 @@ fn accepted_ticket<N: Named>(accepted: &Option<AcceptedCall<N>>) -> Option<Ticke
         Some(accepted) => Some(accepted.ticket()),
         None => None,
     }
+}
+
+/// Makes the caller wait under the ticket of its call. Out of memory, it is refused with `Memory`,
+/// and with `Closed` if its call has no ticket.
+pub(crate) fn wait_at<R: Wait, N: Named>(
+    rt: &R,
+    callers: &mut TicketQueue<PendingCaller<N>>,
+    accepted: Option<AcceptedCall<N>>,
+    at: CompletionSender<CallOutcome<N>>,
+    replies: &mut Replies<N>,
+)
+    ensures { Waits at (ticket_in accepted) callers.old.items callers.new.items replies.old replies.new }
+{
+    match accepted {
+        None => {
+            let refusal = CallRefusal::without_call(Refusal::Closed);
+            replies.add(rt, ReadyReply::refused(at, refusal));
+        }
+        Some(accepted) => {
+            if let Err(refused) = callers.push(PendingCaller::new(accepted, at)) {
+                let AllocFailed { value } = refused;
+                let refusal = CallRefusal::without_call(Refusal::Memory);
+                replies.add(rt, value.reply(Err(refusal)));
+            }
+        }
+    }
+}
+
+/// Makes the caller of a call wait for a completion. Refused with `Memory` when out of memory.
+pub(crate) fn expect_completion<R: Wait, N: Named>(
+    rt: &R,
+    callers: &mut TicketQueue<PendingCaller<N>>,
+    accepted: Option<AcceptedCall<N>>,
+    at: Destination<'_, N>,
+    replies: &mut Replies<N>,
+) -> Result<(), CallRefusal<N>>
+    ensures waits { OnOk result (Waits at.entry.token (ticket_in accepted) callers.old.items callers.new.items replies.old replies.new) }
+    ensures refused { IfErr result (λ e. (e ≡ Refusal.Memory) × (callers.new.items ≡ callers.old.items) × (replies.new ≡ replies.old)) }
+{
+    match CompletionSender::expect(rt, at.completions, at.token) {
+        Err(_) => {
+            drop(accepted);
+            Err(CallRefusal::without_call(Refusal::Memory))
+        }
+        Ok(sender) => {
+            wait_at(rt, callers, accepted, sender, replies);
+            Ok(())
+        }
+    }
+}
+
+/// Takes all callers that wait.
+pub fn dismiss<C: Core + Named>(alloc: Global, seated: &mut SeatedNode<C>) -> Vec<PendingCaller<C>>
+    ensures all { result.items ≡ seated.old.callers.items }
+    ensures none { seated.new.callers.items ≡ [] }
+    ensures desk { seated.new.desk ≡ seated.old.desk }
+{
+    mem::replace(&mut seated.callers, TicketQueue::new(alloc)).into_vec()
+}
+
+/// Refuses these callers, in order: none of them waits any more.
+pub fn refuse_callers<R: Wait, N: Named>(
+    rt: &R,
+    alloc: Global,
+    callers: Vec<PendingCaller<N>>,
+    refusal: &Refusal,
+) {
+    let mut replies = Replies::<N>::new(alloc);
+    for caller in callers {
+        replies.add(rt, caller.reply(Err(CallRefusal::without_call(*refusal))));
+    }
+    replies.tell(rt);
 }

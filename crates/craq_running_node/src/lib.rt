@@ -16,25 +16,24 @@ mod callers;
 mod encoding;
 mod inbox;
 mod joined_node;
+mod last_step;
 mod limits;
 mod node;
 mod recorded_book;
 mod recorded_desk;
-mod replies;
 mod steps;
 
 pub use asked::{Asked, Destination, OwnAsk, QueuedAsk, refuse_own};
-pub use callers::{CallOutcome, OwnReply, PendingCaller};
+pub use callers::{CallOutcome, OwnReply, PendingCaller, dismiss, refuse_callers};
 pub use encoding::{
     Kind, LoneAck, Messages, Outgoing, OwedAck, Sent, encode_entries, encode_sent, lone_entry,
 };
 pub use inbox::{Delivery, Entrances, Inbox, Waiting, open_inbox};
 pub use joined_node::{JoinedNode, open_joined};
+pub use last_step::{entries_of, lone_entry_of, messages_of, messages_of_book, owed_by};
 pub use node::{Removed, Route, RunningNode};
 pub use recorded_book::RecordedBook;
 pub use recorded_desk::{RecordedDesk, StepCalls};
-pub use replies::{Replies, refuse_callers};
 pub use steps::{
-    ArrivedEvent, SeatedNode, dismiss, entries_of, lone_entry_of, messages_of, messages_of_book,
-    owed_by, refuse_asked, take_event, take_own_ask, take_queued_ask,
+    ArrivedEvent, Replies, SeatedNode, refuse_asked, take_event, take_own_ask, take_queued_ask,
 };

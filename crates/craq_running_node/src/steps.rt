@@ -1,43 +1,42 @@
-//! Steps of a node whose seat is locked: of a request or another event, with the replies of the
-//! step; and the messages of the last step. Called by `craq_running_chain`'s batches and by
+//! Steps of a node whose seat is locked: of a request or another event; and `Replies`, the replies of
+//! these steps, kept until the lock is free. Called by `craq_running_chain`'s batches and by
 //! `craq_workers`, under the lock.
-ghost use Rattle.std.specs.Prelude.{◌≡◌, ◌∷◌, ◌⊎◌, ◌↔◌, [], None, Some, Err, Ok, IfErr, IfOk, IfSome, IsNone, IsTrue, OnErr, OnOk, Result, Vec, List, ℕ, false, option_map};
+ghost use Rattle.std.specs.Prelude.{◌≡◌, ◌∷◌, [], None, Some, Err, IfErr, IfOk, IfSome, IsTrue, OnErr, Result, Vec, false, ◌++◌};
 ghost use Rattle.std.specs.Option.{option_copied};
 ghost use Rattle.std.specs.declared.alloc.AllocError.{AllocError};
 ghost use Rattle.std.specs.declared.alloc.Global.{Global};
 ghost use Rattle.craq_node.specs.Represented.{CanArrive};
-ghost use Rattle.craq_runs.specs.Chain.{sent_in};
 ghost use Rattle.craq_names.specs.declared.refusal.Refusal.{Refusal};
 ghost use Rattle.craq_seat.specs.Calls.{Called};
-ghost use Rattle.craq_seat.specs.Cells.{receipt_of};
 ghost use Rattle.craq_store_parts.specs.Recorded.{HaveReplied, MayHappen};
-ghost use Rattle.craq_seat.specs.Numbered.{CanBeSent, numbered_from};
-ghost use Rattle.craq_running_node.specs.declared.encoding.Kind.TheVariants as kinds;
-ghost use Rattle.craq_running_node.specs.Encoded.{AreSentAs, OnlySends, entries_from, lone_position};
-ghost use Rattle.craq_running_node.specs.Replies.{IsReplyTo, Keeps, RefusesAsked, RefusesOwn, RefusesQueued, RefusesStep, Settles, TakesOwn, TakesQueued, TellsCallers, Waits, in_hand, is_own, others_of, own_receipt, replies_to, said_by, said_to, ticket_in, ticket_of, waiting_after, without_memory};
+ghost use Rattle.craq_running_node.specs.Replies.{IsReplyTo, Keeps, RefusesAsked, RefusesOwn, RefusesQueued, RefusesStep, Settles, TakesOwn, TakesQueued, TellsCallers, in_hand, is_own, others_of, own_receipt, replies_to, said_by, said_to, ticket_in, ticket_of, waiting_after, without_memory, caller_under, reply_to, without_caller};
 
-use crate::asked::{Asked, Destination, OwnAsk, QueuedAsk};
-use crate::callers::{CallOutcome, OwnReply, PendingCaller, ReadyReply, joined};
-use crate::encoding::{LoneAck, Messages, OwedAck, Sent, encode_entries, encode_sent, lone_entry};
-use crate::recorded_book::RecordedBook;
+use crate::asked::{Asked, OwnAsk, QueuedAsk};
+use crate::callers::{
+    CallOutcome, OwnReply, PendingCaller, ReadyReply, StepOutcome, expect_completion, joined,
+    wait_at,
+};
 use crate::recorded_desk::{RecordedDesk, StepCalls};
-use crate::replies::Replies;
 use craq_ghost_history::Named;
 use craq_model::{Event, Out, Step};
-use craq_names::{NodeName, Pass, Refusal, Seq, Ticket};
+use craq_names::{NodeName, Pass, Refusal, Ticket};
 use craq_node::Core;
-use craq_seat::{BookCell, CallReceipt, Cell, CompletionSender, Receipt, TicketQueue};
+use craq_seat::{CallReceipt, CompletionSender, TicketQueue};
 use craq_store_parts::{
-    AcceptedCall, CallRefusal, Cause, Losses, MadeAsk, Origin, StepReceipt, StoreHistory,
-    StoreToken,
+    AcceptedCall, CallRefusal, Cause, MadeAsk, Origin, StepReceipt, StoreHistory, StoreToken,
 };
 use std::alloc::{AllocError, AllocFailed, Global};
+use std::marker::Model;
 use std::mem;
-use std::sync::{Arc, Wait};
+use std::sync::Wait;
+
+/// The room that is made for replies at the first one.
+const ROOM: usize = 16;
 
 /// The content of a node's lock: its desk, which keeps the pending calls, and its callers, which
-/// keep the completion queue of each. A
-/// thread that takes the lock knows that the node is the replay of its entries in the store's
+/// keep the completion queue of each.
+///
+/// A thread that takes the lock knows that the node is the replay of its entries in the store's
 /// history, and that each caller's call was accepted there.
 #[derive(Drop)]
 pub struct SeatedNode<C: Core + Named> {
@@ -70,163 +69,6 @@ struct Answering<'a, N: Named> {
     name: NodeName,
     token: StoreToken<N>,
     ticket: Option<Ticket>,
-}
-
-/// Encodes what a step sends, under its receipt. Out of memory, it is lost and counted.
-fn sent_by(alloc: Global, losses: &Losses, step: Option<&Step>, receipt: Receipt) -> Vec<Sent>
-    requires { IfSome (option_copied step) (λ s. CanBeSent receipt s.outs) }
-    ensures sent { IfSome (option_copied step.entry) (λ s. (result.items ≡ []) ⊎ AreSentAs result.items (numbered_from 0 receipt (sent_in s.outs))) }
-    ensures none { option_copied step.entry ≡ None → result.items ≡ [] }
-{
-    match step {
-        None => Vec::new(alloc),
-        Some(step) => match encode_sent(alloc, step, receipt) {
-            Ok(sent) => sent,
-            Err(_) => {
-                losses.add();
-                Vec::new(alloc)
-            }
-        },
-    }
-}
-
-/// Encodes those messages of a step that bring an entry of this position or a later one, under its
-/// receipt. Out of memory, they are lost and counted.
-fn entries_by(
-    alloc: Global,
-    losses: &Losses,
-    step: Option<&Step>,
-    receipt: Receipt,
-    first: Seq,
-) -> Vec<Sent>
-    requires { IfSome (option_copied step) (λ s. CanBeSent receipt s.outs) }
-    ensures sent { IfSome (option_copied step.entry) (λ s. (result.items ≡ []) ⊎ AreSentAs result.items (entries_from first (numbered_from 0 receipt (sent_in s.outs)))) }
-    ensures none { option_copied step.entry ≡ None → result.items ≡ [] }
-{
-    match step {
-        None => Vec::new(alloc),
-        Some(step) => match encode_entries(alloc, step, receipt, first) {
-            Ok(sent) => sent,
-            Err(_) => {
-                losses.add();
-                Vec::new(alloc)
-            }
-        },
-    }
-}
-
-/// Returns the receipt of the last step of a cell.
-fn last_receipt<C: Core>(cell: &Cell<C>) -> Receipt
-    ensures { result ≡ receipt_of cell.now }
-{
-    Receipt {
-        node: cell.opening().name.node,
-        stamp: cell.stamp(),
-    }
-}
-
-/// Encodes what a cell's last step sends. Out of memory, it is lost and counted.
-fn sent_by_cell<C: Core>(alloc: Global, losses: &Losses, cell: &Cell<C>) -> Vec<Sent>
-    ensures sent { IfSome cell.now.last (λ s. (result.items ≡ []) ⊎ AreSentAs result.items (numbered_from 0 (receipt_of cell.now) (sent_in s.outs))) }
-    ensures none { cell.now.last ≡ None → result.items ≡ [] }
-{
-    sent_by(alloc, losses, cell.last(), last_receipt(cell))
-}
-
-/// Encodes what a node's last step sends. Out of memory, it is lost and counted.
-pub fn messages_of<C: Core + Named>(
-    alloc: Global,
-    losses: &Losses,
-    history: &StoreHistory<C>,
-    seated: &mut SeatedNode<C>,
-) -> Messages<C>
-    ensures sent { IfSome seated.old.desk.cell.last (λ s. (result.sent ≡ []) ⊎ AreSentAs result.sent (numbered_from 0 (receipt_of seated.old.desk.cell) (sent_in s.outs))) }
-    ensures none { seated.old.desk.cell.last ≡ None → result.sent ≡ [] }
-    ensures same { seated.new ≡ seated.old }
-{
-    let chain = seated.desk.cell().opening().name.chain;
-    let sent = sent_by_cell(alloc, losses, seated.desk.cell());
-    Messages::new(chain, sent, seated.desk.token(history))
-}
-
-/// Returns the acknowledgement of a node's last step, if the step does nothing else.
-pub fn owed_by<C: Core + Named>(
-    history: &StoreHistory<C>,
-    seated: &mut SeatedNode<C>,
-) -> Option<OwedAck<C>>
-    ensures only { IfSome result (λ ack. IfSome seated.old.desk.cell.last (λ s. OnlySends kinds.Ack s.outs × (numbered_from 0 (receipt_of seated.old.desk.cell) (sent_in s.outs) ≡ ack ∷ []))) }
-    ensures other { IsNone result → IfSome seated.old.desk.cell.last (λ s. ¬ (OnlySends kinds.Ack s.outs)) }
-    ensures none { seated.old.desk.cell.last ≡ None → IsNone result }
-    ensures same { seated.new ≡ seated.old }
-{
-    let chain = seated.desk.cell().opening().name.chain;
-    match lone_ack_of(seated.desk.cell()) {
-        None => None,
-        Some(ack) => Some(OwedAck::new(chain, ack, seated.desk.token(history))),
-    }
-}
-
-/// Returns the acknowledgement of a cell's last step, if the step does nothing else.
-fn lone_ack_of<C: Core>(cell: &Cell<C>) -> Option<LoneAck>
-    ensures only { IfSome result (λ ack. IfSome cell.now.last (λ s. OnlySends kinds.Ack s.outs × (numbered_from 0 (receipt_of cell.now) (sent_in s.outs) ≡ ack ∷ []))) }
-    ensures other { IsNone result → IfSome cell.now.last (λ s. ¬ (OnlySends kinds.Ack s.outs)) }
-    ensures none { cell.now.last ≡ None → IsNone result }
-{
-    LoneAck::of(cell.last()?, last_receipt(cell))
-}
-
-/// Returns the position of the entry that a node's last step sends, if the step does nothing else.
-pub fn lone_entry_of<C: Core>(cell: &Cell<C>) -> Option<Seq>
-    ensures some { IfSome result (λ position. IfSome cell.now.last (λ s. OnlySends kinds.Entry s.outs × (position ≡ lone_position s.outs))) }
-    ensures none { IsNone result → IfSome cell.now.last (λ s. ¬ (OnlySends kinds.Entry s.outs)) }
-{
-    lone_entry(cell.last()?)
-}
-
-/// Encodes those messages of a node's last step that bring an entry of this position or a later
-/// one, in order. Out of memory, they are lost and counted.
-pub fn entries_of<C: Core + Named>(
-    alloc: Global,
-    losses: &Losses,
-    history: &StoreHistory<C>,
-    seated: &mut SeatedNode<C>,
-    first: Seq,
-) -> Messages<C>
-    ensures sent { IfSome seated.old.desk.cell.last (λ s. (result.sent ≡ []) ⊎ AreSentAs result.sent (entries_from first (numbered_from 0 (receipt_of seated.old.desk.cell) (sent_in s.outs)))) }
-    ensures none { seated.old.desk.cell.last ≡ None → result.sent ≡ [] }
-    ensures same { seated.new ≡ seated.old }
-{
-    let cell = seated.desk.cell();
-    let chain = cell.opening().name.chain;
-    let sent = entries_by(alloc, losses, cell.last(), last_receipt(cell), first);
-    Messages::new(chain, sent, seated.desk.token(history))
-}
-
-/// Encodes what a master's last step sends. Out of memory, it is lost, and no node counts it.
-pub fn messages_of_book<N: Named>(
-    alloc: Global,
-    history: &StoreHistory<N>,
-    book: &mut RecordedBook<N>,
-) -> Messages<N>
-    ensures sent { IfSome book.old.last (λ s. (result.sent ≡ []) ⊎ AreSentAs result.sent (numbered_from 0 (receipt_of book.old) (sent_in s.outs))) }
-    ensures none { book.old.last ≡ None → result.sent ≡ [] }
-    ensures same { book.new ≡ book.old }
-{
-    let chain = book.cell().opening().name.chain;
-    let sent = sent_by_book(alloc, book.cell());
-    Messages::new(chain, sent, book.token(history))
-}
-
-/// Encodes what a master's last step sends. Out of memory, it is lost, and no node counts it.
-fn sent_by_book(alloc: Global, book: &BookCell) -> Vec<Sent>
-    ensures sent { IfSome book.now.last (λ s. (result.items ≡ []) ⊎ AreSentAs result.items (numbered_from 0 (receipt_of book.now) (sent_in s.outs))) }
-    ensures none { book.now.last ≡ None → result.items ≡ [] }
-{
-    let receipt = Receipt {
-        node: book.opening().name.node,
-        stamp: book.stamp(),
-    };
-    sent_by(alloc, &Losses::new(), book.last(), receipt)
 }
 
 /// Adds a reply for each of these receipts, but returns the receipt under the step's own ticket: it
@@ -466,32 +308,6 @@ fn settle<R: Wait, N: Named>(
     }
 }
 
-/// Makes the caller wait under the ticket of its call. Out of memory, it is refused with `Memory`,
-/// and with `Closed` if its call has no ticket.
-fn wait_at<R: Wait, N: Named>(
-    rt: &R,
-    callers: &mut TicketQueue<PendingCaller<N>>,
-    accepted: Option<AcceptedCall<N>>,
-    at: CompletionSender<CallOutcome<N>>,
-    replies: &mut Replies<N>,
-)
-    ensures { Waits at (ticket_in accepted) callers.old.items callers.new.items replies.old replies.new }
-{
-    match accepted {
-        None => {
-            let refusal = CallRefusal::without_call(Refusal::Closed);
-            replies.add(rt, ReadyReply::refused(at, refusal));
-        }
-        Some(accepted) => {
-            if let Err(refused) = callers.push(PendingCaller::new(accepted, at)) {
-                let AllocFailed { value } = refused;
-                let refusal = CallRefusal::without_call(Refusal::Memory);
-                replies.add(rt, value.reply(Err(refusal)));
-            }
-        }
-    }
-}
-
 /// Takes the step of the caller's own request. Returns the reply in hand; the refusal outside is of
 /// a request whose step was not taken.
 pub fn take_own_ask<R: Wait, C: Core + Named>(
@@ -521,29 +337,6 @@ pub fn take_own_ask<R: Wait, C: Core + Named>(
     }
 }
 
-/// Makes the caller of a call wait for a completion. Refused with `Memory` when out of memory.
-fn expect_completion<R: Wait, N: Named>(
-    rt: &R,
-    callers: &mut TicketQueue<PendingCaller<N>>,
-    accepted: Option<AcceptedCall<N>>,
-    at: Destination<'_, N>,
-    replies: &mut Replies<N>,
-) -> Result<(), CallRefusal<N>>
-    ensures waits { OnOk result (Waits at.entry.token (ticket_in accepted) callers.old.items callers.new.items replies.old replies.new) }
-    ensures refused { IfErr result (λ e. (e ≡ Refusal.Memory) × (callers.new.items ≡ callers.old.items) × (replies.new ≡ replies.old)) }
-{
-    match CompletionSender::expect(rt, at.completions, at.token) {
-        Err(_) => {
-            drop(accepted);
-            Err(CallRefusal::without_call(Refusal::Memory))
-        }
-        Ok(sender) => {
-            wait_at(rt, callers, accepted, sender, replies);
-            Ok(())
-        }
-    }
-}
-
 /// Returns the ticket of the request that a step accepted, if it did.
 fn last_ticket(step: Option<&Step>) -> Option<Ticket>
     ensures { result ≡ ticket_of (option_copied step.entry) }
@@ -551,11 +344,99 @@ fn last_ticket(step: Option<&Step>) -> Option<Ticket>
     step?.ticket
 }
 
-/// Takes all callers that wait.
-pub fn dismiss<C: Core + Named>(alloc: Global, seated: &mut SeatedNode<C>) -> Vec<PendingCaller<C>>
-    ensures all { result.items ≡ seated.old.callers.items }
-    ensures none { seated.new.callers.items ≡ [] }
-    ensures desk { seated.new.desk ≡ seated.old.desk }
-{
-    mem::replace(&mut seated.callers, TicketQueue::new(alloc)).into_vec()
+/// The replies of a step, until they are sent. Neither it nor a reply has a drop, so each is sent.
+/// A contract sees them in order, and whether room was ever short.
+pub struct Replies<N: Named> {
+    waiting: Vec<ReadyReply<N>>,
+    /// There was no room for a reply, which was sent at once.
+    short: bool,
+}
+
+impl<N: Named> Model for Replies<N> {
+    ghost use Rattle.craq_running_node.specs.Replies.{PendingReplies};
+
+    ghost Value = { PendingReplies };
+
+    ghost view = { λ r. record { replies = r.waiting.items; short = r.short } };
+}
+
+impl<N: Named> Replies<N> {
+    /// Makes an empty list of replies. Takes no memory.
+    pub fn new(alloc: Global) -> Self
+        ensures { result ≡ record { replies = []; short = false } }
+    {
+        Replies {
+            waiting: Vec::new(alloc),
+            short: false,
+        }
+    }
+
+    /// Returns the allocator of the list.
+    pub(crate) fn allocator(&self) -> Global {
+        *self.waiting.allocator()
+    }
+
+    /// Reserves room for replies at the first one. Out of memory there is none.
+    fn make_room(&mut self)
+        ensures { self.new ≡ self.old }
+    {
+        if self.waiting.is_empty() {
+            drop(self.waiting.reserve(ROOM));
+        }
+    }
+
+    /// Keeps a reply behind the others. Out of memory, gives it back and marks room as short.
+    fn keep(&mut self, reported: ReadyReply<N>) -> Option<ReadyReply<N>>
+        ensures kept { result ≡ None → (self.new.replies ≡ self.old.replies ++ reported ∷ []) × (self.new.short ≡ self.old.short) }
+        ensures back { IfSome result (λ t. (t ≡ reported) × (self.new.replies ≡ self.old.replies) × IsTrue self.new.short) }
+    {
+        match self.waiting.push(reported) {
+            Ok(()) => None,
+            Err(refused) => {
+                let AllocFailed { value } = refused;
+                self.short = true;
+                Some(value)
+            }
+        }
+    }
+
+    /// Adds a reply. If there is no room for it, sends it at once.
+    pub(crate) fn add<R: Wait>(&mut self, rt: &R, reply: ReadyReply<N>)
+        ensures { Keeps self.old (reply ∷ []) self.new }
+    {
+        self.make_room();
+        if let Some(reported) = self.keep(reply) {
+            reported.tell(rt);
+        }
+    }
+
+    /// Adds the reply for the caller that waits under this ticket; it then waits no more. Drops the
+    /// outcome if no caller does.
+    pub(crate) fn add_under<R: Wait>(
+        &mut self,
+        rt: &R,
+        callers: &mut TicketQueue<PendingCaller<N>>,
+        ticket: Ticket,
+        outcome: StepOutcome<N>,
+    )
+        requires { IsReplyTo (Some ticket) outcome }
+        ensures reported { Keeps self.old (reply_to (caller_under callers.old.items ticket) outcome) self.new }
+        ensures others { callers.new.items ≡ without_caller callers.old.items ticket }
+    {
+        match callers.take(ticket) {
+            Some(caller) => self.add(rt, caller.reply(outcome)),
+            None => drop(outcome),
+        }
+    }
+
+    /// Sends all replies, in order, each into its caller's completion queue
+    /// (`CompletionSender::tell`).
+    pub fn tell<R: Wait>(self, rt: &R) {
+        let Replies { waiting, short: _ } = self;
+        let mut left = waiting.into_iter();
+        while let Some(reported) = left.next() {
+            reported.tell(rt);
+        }
+        left.destroy_empty();
+    }
 }

@@ -36,6 +36,13 @@ pub(crate) struct Share {
     pub(crate) load: Load,
 }
 
+/// The origin of a call: the key of its connection, and the load of the event loop.
+#[derive(Clone, Copy, Debug)]
+struct CallOrigin {
+    key: usize,
+    load: Load,
+}
+
 /// The readiness of a connection, as far as it is known.
 #[derive(Clone, Copy)]
 struct Readiness {
@@ -471,18 +478,17 @@ impl<S: Socket, T> Connection<S, T> {
         self.take_reply(alloc, backend, call, reply);
     }
 
-    /// Asks the call that a step made, under this key and the number after that of the call before
-    /// it. An outcome at once goes to its state.
+    /// Asks the call that a step made, under the key of its origin and the number after that of the
+    /// call before it. An outcome at once goes to its state.
     #[tactic(auto, using(crate::proofs::Advancing::nothing_came, crate::proofs::Advancing::came_at_once))]
     fn submit<H: AsyncBackend<Session = T>>(
         &mut self,
         alloc: Global,
         backend: &H,
         unsent: UnsentCall,
-        key: usize,
-        load: Load,
+        origin: CallOrigin,
     )
-        ensures asked { AsksBackend (H.refuses backend.now) (under_key (called_by (H.submits backend.now) (H.finishes backend.now)) key (next_call self.old.calls)) self.old.state.phase self.old.state self.new.state }
+        ensures asked { AsksBackend (H.refuses backend.now) (under_key (called_by (H.submits backend.now) (H.finishes backend.now)) origin.key (next_call self.old.calls)) self.old.state.phase self.old.state self.new.state }
         ensures calls { self.new.calls ≡ next_call self.old.calls }
         ensures stream { self.new.stream ≡ self.old.stream }
         ensures busy { self.new.busy ≡ self.old.busy }
@@ -492,10 +498,10 @@ impl<S: Socket, T> Connection<S, T> {
     {
         self.calls = self.calls.wrapping_add(1);
         let token = CallToken {
-            connection: key,
+            connection: origin.key,
             call: self.calls,
         };
-        if let Some(outcome) = self.state.ask(unsent, backend, token, load) {
+        if let Some(outcome) = self.state.ask(unsent, backend, token, origin.load) {
             self.answer(alloc, backend, outcome);
         }
     }
@@ -521,10 +527,14 @@ impl<S: Socket, T> Connection<S, T> {
         if self.over {
             return;
         }
+        let origin = CallOrigin {
+            key,
+            load: share.load,
+        };
         for _step in 0..share.steps {
             match self.state.step(alloc, backend) {
                 Stepped::Goes => {}
-                Stepped::Calls(unsent) => self.submit(alloc, backend, unsent, key, share.load),
+                Stepped::Calls(unsent) => self.submit(alloc, backend, unsent, origin),
                 Stepped::Starved => {
                     self.more = false;
                     return;

@@ -18,7 +18,7 @@ ghost use Rattle.craq_store_parts.specs.Witnessed.{IsWitnessedOrder};
 
 use craq_ghost_history::Named;
 use craq_names::{NodeId, Refusal};
-use craq_running_node::messages_of_book;
+use craq_running_node::{JoinedNode, Messages, RecordedBook, messages_of_book};
 use craq_seat::{BookCell, BookEvent, Receipt};
 use craq_store_parts::{StoreHistory, StoreToken, StoreWriter};
 use std::alloc::Global;

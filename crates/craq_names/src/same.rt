@@ -1,5 +1,5 @@
 //! `Same`: an exact test of equality. It is defined here because types of `craq_commands` and
-//! `craq_model` implement it too; `craq_audit` and `craq_completions` call it.
+//! `craq_model` implement it too; `craq_audit` and `craq_seat` call it.
 ghost use Rattle.std.specs.Prelude.{◌≡◌, ◌↔◌, IsTrue};
 
 use crate::{ClientId, Items, Key, NodeId, ObjectId, Refusal, RequestNo, Value, Version};

@@ -260,11 +260,11 @@ where
     }
 
     /// Returns the store as the connections of one thread call it, with the thread's completion
-    /// queue and its share of the counts. Fails only when out of memory.
+    /// queue and its counts. Fails only when out of memory.
     pub(crate) fn backend(
         &self,
         completions: CompletionQueue<StoreOutcome<C>>,
-        share: Arc<ThreadCounts>,
+        counts: Arc<ThreadCounts>,
     ) -> Result<ServedStore<'_, R, C, G>, AllocError> {
         Ok(ServedStore {
             rt: self.rt,
@@ -274,7 +274,7 @@ where
             bulk_limit: &self.bulk_limit,
             log: self.serving.log,
             completions: Arc::new(self.alloc, completions)?,
-            share,
+            counts,
         })
     }
 

@@ -193,7 +193,7 @@ where
     /// out of `inbox` by `arrival`. Fails when out of memory, and if 2^64 - 1 sessions were opened.
     fn hand(&self, stream: Arc<TcpStream>, slot: usize) -> Result<(), AllocError> {
         let receipts = self.server.new_receipts()?;
-        let traffic = Arc::try_clone(&self.backend.share.traffic)?;
+        let traffic = Arc::try_clone(&self.backend.counts.traffic)?;
         let arrival = NewConnection {
             stream: ClientStream { stream, traffic },
             session: self.server.open_session()?,

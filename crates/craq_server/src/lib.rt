@@ -1,5 +1,5 @@
-//! A store's server: the connections of a listener, the store as their request handlers call it,
-//! and the text of a store's status. Code that runs in the programs.
+//! A store's server: the connections of a listener, the store as they call it, and the text of a
+//! store's status. Code that runs in the programs.
 #![tactic(auto)]
 
 mod accepting;

@@ -1,4 +1,4 @@
-//! `Log`: the log of a server's connections and refusals; for `accepting` and the request handlers.
+//! `Log`: the log of a server's connections and refusals; for `accepting` and `served_store`.
 use craq_names::Refusal;
 use std::net::TcpStream;
 

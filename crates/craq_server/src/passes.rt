@@ -1,5 +1,5 @@
-//! `Passes`: the passes that a server takes, by the largest that it returned; shared by the request
-//! handlers of its connections.
+//! `Passes`: the passes that a server takes, by the largest that it returned; shared by its
+//! connections.
 ghost use Rattle.std.specs.Prelude.{◌≡◌, ◌⊎◌, ◌+◌, ◌/◌, ◌<◌, ◌≤◌, ◌↔◌, ℕ, IsTrue, false};
 ghost use Rattle.craq_server.specs.Refusing.{Leaps};
 

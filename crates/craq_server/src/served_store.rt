@@ -56,7 +56,7 @@ pub(crate) struct ServedStore<'a, R: Wait, C: Core + Named, G: Gate> {
     /// The completions of the calls of this thread.
     pub(crate) completions: Arc<CompletionQueue<StoreOutcome<C>>>,
     /// The counts of this thread.
-    pub(crate) share: Arc<ThreadCounts>,
+    pub(crate) counts: Arc<ThreadCounts>,
 }
 
 impl<'a, R, C, G> ServedStore<'a, R, C, G>
@@ -69,7 +69,7 @@ where
     /// the server bounds passes, and as `Store::make_ask` is. A refusal of `Store::submit` is the
     /// call's reply.
     #[tactic(auto, using(crate::proofs::Sessions::refused_by_make, crate::proofs::Sessions::refused_for_pass))]
-    fn submit_call(
+    fn submit_made(
         &self,
         session: &mut StoreSession<C>,
         request: &CallRequest,
@@ -146,14 +146,14 @@ where
     ghost refuses = { λ served node pass ask refusal. RefusesServed (length served.store.now.names) node ask refusal };
 
     fn status(&self) -> Result<Text, AllocError> {
-        self.share.count_status();
+        self.counts.count_status();
         let chains = self.store.status(&self.rt)?;
         let text = status_text(self.alloc, chains.as_slice())?;
         Ok(Text::of(text))
     }
 
     fn unasked(&self, refusal: &Refusal) {
-        self.share.count_refusal(refusal);
+        self.counts.count_refusal(refusal);
     }
 }
 
@@ -180,8 +180,8 @@ where
         submit_token: SubmitToken,
         request: &CallRequest,
     ) -> Result<Option<StoreOutcome<C>>, Refusal> {
-        self.share.count_ask(&request.ask);
-        self.submit_call(session, request, &submit_token)
+        self.counts.count_ask(&request.ask);
+        self.submit_made(session, request, &submit_token)
     }
 
     fn finish(
@@ -194,7 +194,7 @@ where
     }
 
     fn refused(&self, slot: usize, refusal: Refusal) {
-        self.share.count_refusal(&refusal);
+        self.counts.count_refusal(&refusal);
         self.log.refused(&self.rt, slot, refusal);
     }
 }

@@ -1,5 +1,6 @@
 //! `Client`: blocking calls of a store from any thread, one at a time, with the pass that they
-//! raise and the history that they have seen.
+//! raise and the history that they have seen. `make_call`, `finish_call` and `give_up_call` serve the
+//! calls of sessions too (`asking`).
 ghost use Rattle.std.specs.Prelude.{◌≡◌, ◌<◌, ◌⊎◌, ◌≤◌, ◌+◌, ◌↔◌, List, Some, max, Err, IfErr, IfOk, IfSome, Ok, OnErr, length};
 ghost use mathlib.Core.List.{IsPrefix};
 ghost use Rattle.craq_names.specs.Limits.{greatest};
@@ -20,8 +21,8 @@ use craq_model::{Answer, Ask};
 use craq_names::{Copied, NodeName, Pass, Refusal};
 use craq_node::Core;
 use craq_running_chain::{AskedChain, Reach, Shared, possible_refusal};
-use craq_running_node::{Asked, CallOutcome, CallRefusal, Destination, Gate};
-use craq_seat::CallReceipt;
+use craq_running_node::{Asked, CallOutcome, Destination};
+use craq_seat::{CallReceipt, CallToken, Completion, CompletionQueue, answer_of_call, pass_after};
 use craq_store_history::CallId;
 use craq_store_parts::{
     AnsweredCall, CallRefusal, Gate, MadeAsk, RefusalMoment, Session, StoreHistory, StoreToken,

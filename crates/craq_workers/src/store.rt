@@ -342,9 +342,9 @@ impl<C: Core + Named, G: Gate> Store<C, G> {
     /// is known at once, and else `None`. `ask` is the call's request. The caller runs no more of
     /// the chain than its reach.
     ///
-    /// After `None` exactly one completion with the caller's token comes into its queue: with the
-    /// reply, or with `Stopped`, `Closed` or `Memory`, or, if the request was queued, with the
-    /// node's refusal. `finish_ask` tells of a reply whether it is of this call. `give_up_ask` tells
+    /// After `None` exactly one completion with the caller's token comes into its queue. It holds
+    /// the reply, or a refusal. `Stopped`, `Closed` and `Memory` can always come, and the refusals of
+    /// the node if the request was queued. `finish_ask` tells of a reply whether it is of this call. `give_up_ask` tells
     /// of a refusal whether a step may have accepted the call, and when the node refused it.
     ///
     /// Refused as `Client::call` is, and then no completion comes: with `UnknownChain` exactly if

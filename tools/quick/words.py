@@ -8,7 +8,7 @@ HISTORY = "docs/develop/CHANGELOG.md"
 PAGE = "docs/develop/ARCHITECTURE.md"
 CRATE = re.compile(r"\bcraq_[a-z_]*[a-z]\b")
 # Crates that stand elsewhere than under crates/, and what is no crate.
-OTHER_NAMES = re.compile(r"craq_\w*bench|craq_soak|craq_served")
+OTHER_NAMES = re.compile(r"craq_\w*bench|craq_soak|craq_served|craq_accepted")
 
 
 def patterns():

@@ -20,13 +20,16 @@ def walk(checks):
     checks.that(len(named) > 30, f"{PAGE}: the functions from socket to socket were not found")
     for function, crate in named:
         checks.that(is_in(function, sources_of([crate])), f"{PAGE} names {function}, which {crate} has not")
-    ways = [way_of(part, column) for column in (1, 2)]
-    for way in ways:
-        wanted = counts_of(way)
+    most = 0, 0
+    for column in (1, 2):
+        way = way_of(part, column)
+        files, crates, changes = counts_of(way)
+        wanted = f"{len(way)} functions, {files} files, {crates} crates, {changes} changes of file"
         checks.that(wanted in " ".join(part.split()), f"{PAGE} has to say: {wanted}")
-    most = max(len({crate for _, crate in way}) for way in ways)
-    checks.that(f"passes {most} crates" in " ".join(repository.text_of(OPEN).split()),
-                f"{OPEN} has to say that a put passes {most} crates")
+        most = max(most[0], crates), max(most[1], files)
+    wanted = f"passes {most[0]} crates and {most[1]} files"
+    checks.that(wanted in " ".join(repository.text_of(OPEN).split()),
+                f"{OPEN} has to say that a put {wanted}")
 
 
 def functions_in(text):
@@ -50,11 +53,11 @@ def way_of(part, column):
 
 
 def counts_of(way):
-    """Returns the words that say how many files and crates these functions stand in."""
+    """Returns the number of files and of crates in which these functions stand, and how often the file
+    changes from one to the next."""
     files = [file_of(*it) for it in way]
     changes = sum(a != b for a, b in zip(files, files[1:]))
-    return (f"{len(way)} functions, {len(set(files))} files, {len({it for _, it in way})} crates, "
-            f"{changes} changes of file")
+    return len(set(files)), len({crate for _, crate in way}), changes
 
 
 def file_of(function, crate):

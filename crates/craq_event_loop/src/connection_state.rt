@@ -210,7 +210,7 @@ fn put(place: &mut Phase, phase: Phase)
 
 /// The outcome of a step.
 #[derive(Debug)]
-pub(crate) enum Stepped {
+pub enum Stepped {
     /// There may be another step to take.
     Goes,
     /// A call is to be made, by `ask`, and its outcome to be given back by `answer`.

@@ -22,10 +22,10 @@ mod submitting;
 mod traffic;
 
 pub use backend::{AsyncBackend, Backend, BlockingBackend, LoopBackend, NewConnection};
-pub use connection_state::{CallRequest, ConnectionState};
+pub use connection_state::{CallRequest, ConnectionState, Stepped};
 pub use door_calls::ReceiptPolicy;
 pub use event_loop::{EventLoop, LoopSettings};
 pub use laws::each_call_has_its_number;
 pub use own_thread::serve_one;
-pub use submitting::{Load, SubmitToken};
+pub use submitting::{Load, SubmitToken, UnsentCall};
 pub use traffic::{ClientStream, Traffic};

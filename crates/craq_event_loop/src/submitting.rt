@@ -10,7 +10,7 @@ use craq_seat::{CallToken, Outcome};
 /// `ConnectionState::ask` takes one. It is neither `Copy` nor `Drop`, so each call that a step made
 /// is asked exactly once.
 #[derive(Debug)]
-pub(crate) struct UnsentCall {
+pub struct UnsentCall {
     _made: (),
 }
 

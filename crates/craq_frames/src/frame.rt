@@ -1,5 +1,5 @@
 //! Frames: a payload after its length, cut off the front of bytes and written at the end; used by
-//! the protocol codec, `craq_front` and `craq_server`.
+//! the protocol codec and `craq_front`.
 ghost use Rattle.std.specs.Prelude.{◌≡◌, ◌≢◌, ◌<◌, ◌≤◌, ◌+◌, ◌^◌, ◌⊎◌, ◌↔◌, ℕ, List, ◌++◌, length, take, drop, All, Ok, Err, None, IsTrue, IfSome, IfOk, IfErr, OnOk, OnErr};
 ghost use Rattle.std.specs.IoError.{error_kind};
 ghost use Rattle.std.specs.declared.io.ErrorKind.TheVariants.{OutOfMemory};

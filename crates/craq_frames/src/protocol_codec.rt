@@ -1,6 +1,6 @@
 //! `ProtocolCodec`: the protocol codec of one connection, without a stream and without a request
-//! handler. Bytes go in and requests come out; replies go in and bytes come out. `serve` of
-//! `craq_front` drives one over a stream; an event loop drives many.
+//! handler. Bytes go in and requests come out; replies go in and bytes come out. Each connection of
+//! `craq_event_loop` drives one; so does `serve` of `craq_front`.
 ghost use Rattle.std.specs.Prelude.{◌≡◌, ◌≤◌, ◌↔◌, ℕ, List, None, Some, Ok, [], ◌++◌, drop, length, IsTrue, IfOk, IfSome, OnErr};
 ghost use Rattle.craq_frames.specs.Frame.{frame, payload_limit};
 ghost use Rattle.craq_frames.specs.Versions.{IsPayload, EncodesPayload};

@@ -1,5 +1,5 @@
 //! Payloads of versions 1 and 2, also those of several requests: `Payload` and `Answered`; used by
-//! the protocol codec, which accepts both versions, and by `craq_server`.
+//! the protocol codec, which accepts both versions.
 ghost use Rattle.std.specs.Prelude.{◌≡◌, ◌≤◌, ◌+◌, ◌⊎◌, ℕ, List, ◌++◌, length, take, drop, Err, IfOk, IfErr, OnOk, OnErr};
 ghost use Rattle.std.specs.Io.{StartsWith};
 ghost use Rattle.std.specs.List.{AllByRecursion, list_all};

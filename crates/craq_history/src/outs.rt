@@ -45,8 +45,8 @@ pub struct PendingSends<'a> {
     pub reads: &'a [WaitingRead],
 }
 
-/// Returns a message of the node in its epoch. The journaled node (`Cell`) sets its stamp and
-/// index.
+/// Returns a message of the node in its epoch. `craq_seat` numbers the messages of a step: it sets
+/// the stamp and the index (`numbered`).
 pub fn message(sender: &Sender, to: NodeId, body: Body) -> Out
     ensures { result ≡ sent_from sender.now.name sender.now.epoch to body }
 {
@@ -143,7 +143,7 @@ fn add_to_runs(
 }
 
 /// Returns the messages that send consecutive entries, given in two parts.
-fn messages_of(alloc: Global, entries: &[Entry], later: &[Entry]) -> Result<Vec<Body>, AllocError>
+fn bodies_of(alloc: Global, entries: &[Entry], later: &[Entry]) -> Result<Vec<Body>, AllocError>
     ensures { IfOk result λ bodies. bodies.items ≡ entry_bodies (entries.now ++ later.now) }
 {
     let mut bodies = Vec::new(alloc);
@@ -190,7 +190,7 @@ pub fn send_entries(
     ensures sent { OnOk result (outs.new.items ≡ outs.old.items ++ map (sent_from sender.now.name sender.now.epoch to) (entry_bodies entries.now)) }
     ensures same { OnErr result (outs.new.items ≡ outs.old.items) }
 {
-    let bodies = messages_of(alloc, entries, &[])?;
+    let bodies = bodies_of(alloc, entries, &[])?;
     send_all(outs, sender, to, bodies)
 }
 
@@ -248,7 +248,7 @@ fn catch_up(
         return Ok(());
     };
     let len = outs.len();
-    let bodies = messages_of(alloc, pending.held, pending.appended)?;
+    let bodies = bodies_of(alloc, pending.held, pending.appended)?;
     send_all(outs, sender, to, bodies)?;
     let sent = send(outs, sender, to, Body::Floor(pending.length));
     undo_if_err(outs, len, sent)

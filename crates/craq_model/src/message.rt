@@ -137,7 +137,7 @@ impl Same for Body {
 }
 
 /// A message between nodes of a chain. Sender, stamp and index among the sends of the sender's step
-/// name it. Inside a step the stamp is 1 and the index 0: the journaled node (`Cell`) sets both.
+/// name it. Inside a step the stamp is 1 and the index 0; both are set once the step has its stamp.
 #[derive(Debug, Drop)]
 pub struct LinkMessage {
     pub chain: ChainId,

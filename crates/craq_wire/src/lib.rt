@@ -1,6 +1,6 @@
 //! Encodes and decodes the messages between the nodes of a chain, and the parts of messages:
 //! numbers, keys, values, replies, entries, commands. `craq_frames` builds on the parts for clients.
-//! Runs in the programs: `craq_running_node` writes the messages, `craq_running_chain` reads them.
+//! Runs in the programs: `craq_running_node` writes the messages and reads them.
 #![tactic(auto)]
 
 mod alike;

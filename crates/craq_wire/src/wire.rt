@@ -1,4 +1,4 @@
-//! `encode`, `decode` and `spelled`: the functions of the crate, for links between nodes.
+//! `encode`, `decode` and `spelled`: whole messages, for the links between nodes.
 ghost use Rattle.std.specs.Prelude.{◌≡◌, ◌⊎◌, ◌↔◌, ℕ, List, Err, IfOk, IfErr, IsTrue};
 ghost use Rattle.craq_model.specs.Encodable.{IsEncodable};
 ghost use Rattle.craq_wire.specs.NumberReading.{Decodes};

@@ -1,5 +1,5 @@
-//! Evaluation of a command into an entry at the head: its versions, writes and reply. `updates`
-//! calls this.
+//! Entries at the head: a command becomes versions, writes and a reply (`outcome`). For `updates`;
+//! `forward` and `only` also for `deliveries`.
 ghost use Rattle.std.specs.Prelude.{◌≡◌, ◌≢◌, ◌∷◌, [], ℕ, List, All, map, is_none, ◌++◌, IfOk, IfSome, OnOk};
 ghost use Rattle.craq_names.specs.Limits.{greatest};
 ghost use Rattle.craq_commands.specs.Evaluation.{objects_named, some_used_up};

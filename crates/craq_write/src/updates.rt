@@ -259,10 +259,10 @@ fn compute_new<H: History>(
     Ok(plan)
 }
 
-/// Plans an update at a ready head that has a ticket left. A number that was requested before gets
-/// the kept reply, or `Stale`, at the position of its client's newest entry; a new one makes an
-/// entry. The reply is sent in this step if its position is committed, else the update waits. The
-/// head decides an update and sends the resulting values (USENIX ATC 2009); entries for updates
+/// Plans an update at a ready head that has a ticket left. A new number makes an entry, at the next
+/// position. An earlier number gets the kept reply, or `Stale`, at the position of its client's
+/// newest entry. If that position is committed, this step sends the reply; else the update waits.
+/// The head decides an update and sends the resulting values (USENIX ATC 2009); entries for updates
 /// that write nothing, and at most 8 kept replies for a client, are this project's profile.
 ///
 /// The errors, in order: `Exhausted` if a new one finds no next position, or names an object

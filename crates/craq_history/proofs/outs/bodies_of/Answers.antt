@@ -4,7 +4,7 @@ use Rattle.craq_commands.specs.declared.entry.Entry.{Entry}
 use Rattle.craq_model.specs.declared.message.Body.{Body}
 use Rattle.craq_model.specs.Sends.{entry_bodies}
 use Rattle.craq_history.proofs.Running.{all}
-use Rattle.craq_history.proofs.outs.messages_of.Goals as goal
+use Rattle.craq_history.proofs.outs.bodies_of.Goals as goal
 
 pub returns-in_ok-push-in-Some : goal.returns-in_ok-push-in-Some
 returns-in_ok-push-in-Some c =

@@ -25,7 +25,7 @@ PLAYED = ("put-then-read-everywhere", "acknowledged-while-a-query-travels", "joi
           "mini-transactions", "copy-in-parts",
           "stops-at-the-head", "draw-one-schedule")
 # Calls whose asks for memory are counted by themselves, where the program has them by name.
-LAB_CALLS = {"Core::step": r"craq_node::core_over_past::\w+::step::",
+LAB_CALLS = {"Core::step": r"craq_node::node_core::\w+::step::",
              "ChainCore::take": r"craq_chain::chain::ChainCore::take::",
              "explain_run": r"craq_explain::replay::explain_run_of$", "check": r"craq_check::verdict::check$"}
 PATIENCE, NO_MEMORY = 60, 3

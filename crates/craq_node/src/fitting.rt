@@ -1,4 +1,4 @@
-//! Tests whether the counts in a step's sends fit into messages. `core_over_past` calls this before
+//! Tests whether the counts in a step's sends fit into messages. `NodeCore` calls this before
 //! it applies a change.
 ghost use Rattle.std.specs.Prelude.{◌≡◌};
 ghost use Rattle.craq_model.specs.Node.{outs_fit, counts_fit};

@@ -3,11 +3,10 @@
 #![tactic(auto)]
 
 mod admitting;
-mod computing;
-mod core_over_past;
+mod core;
 mod fitting;
 mod heeding;
 mod node_core;
 
-pub use core_over_past::NodeCore;
-pub use node_core::Core;
+pub use core::Core;
+pub use node_core::NodeCore;

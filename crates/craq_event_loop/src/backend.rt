@@ -129,7 +129,8 @@ pub trait LoopBackend: AsyncBackend {
     fn take_completions(&self, into: &mut Vec<Completion<Self::Reply>>)
         ensures { brings self.now into.old.items into.new.items };
 
-    /// Takes the steps of the calls that were submitted under `Load::Light` and wait for that.
+    /// Takes the steps of the calls that were submitted with `Reach::WholeChainLater` and wait for
+    /// that.
     fn run_queued(&self);
 
     /// Returns the next connection that came to this event loop. Its session is new.

@@ -10,8 +10,8 @@ use crate::connection_state::Stepped;
 use crate::socket::{Moved, Socket};
 use crate::submitting::UnsentCall;
 use crate::traffic::ClientStream;
-use crate::{AsyncBackend, BlockingBackend, ConnectionState, Load, ReceiptPolicy};
-use craq_seat::{CallToken, Outcome};
+use crate::{AsyncBackend, BlockingBackend, ConnectionState, ReceiptPolicy};
+use craq_seat::{CallToken, Outcome, Reach};
 use mio::event::Event;
 use mio::unix::SourceFd;
 use mio::{Interest, Registry};
@@ -32,15 +32,15 @@ pub(crate) const MOST_STEPS: usize = 3;
 pub(crate) struct Share {
     /// The most steps that it takes.
     pub(crate) steps: usize,
-    /// The load of the event loop.
-    pub(crate) load: Load,
+    /// The part of a chain that it may run for an update.
+    pub(crate) reach: Reach,
 }
 
-/// The origin of a call: the key of its connection, and the load of the event loop.
+/// The origin of a call: the key of its connection, and the part of a chain that it may run.
 #[derive(Clone, Copy, Debug)]
 struct CallOrigin {
     key: usize,
-    load: Load,
+    reach: Reach,
 }
 
 /// The readiness of a connection, as far as it is known.
@@ -501,7 +501,7 @@ impl<S: Socket, T> Connection<S, T> {
             connection: origin.key,
             call: self.calls,
         };
-        if let Some(outcome) = self.state.ask(unsent, backend, token, origin.load) {
+        if let Some(outcome) = self.state.ask(unsent, backend, token, origin.reach) {
             self.answer(alloc, backend, outcome);
         }
     }
@@ -529,7 +529,7 @@ impl<S: Socket, T> Connection<S, T> {
         }
         let origin = CallOrigin {
             key,
-            load: share.load,
+            reach: share.reach,
         };
         for _step in 0..share.steps {
             match self.state.step(alloc, backend) {

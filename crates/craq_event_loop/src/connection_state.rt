@@ -13,11 +13,11 @@ ghost use Rattle.craq_event_loop.specs.Turns.{IsCalled, kept, name_of};
 use crate::door_calls::DoorCalls;
 use crate::phases::{advance, answered};
 use crate::submitting::{UnsentCall, submit_call};
-use crate::{AsyncBackend, Backend, Load, ReceiptPolicy};
+use crate::{AsyncBackend, Backend, ReceiptPolicy};
 use craq_frames::{ClientMessage, ClientReply, ProtocolCodec, is_allowed};
 use craq_model::Ask;
 use craq_names::{NodeId, NodeName, Pass, Refusal};
-use craq_seat::{CallReceipt, CallToken, Outcome, answer_of_call};
+use craq_seat::{CallReceipt, CallToken, Outcome, Reach, answer_of_call};
 use std::alloc::{AllocError, Global};
 use std::mem;
 
@@ -361,7 +361,7 @@ impl<T> ConnectionState<T> {
         unsent: UnsentCall,
         backend: &B,
         token: CallToken,
-        load: Load,
+        reach: Reach,
     ) -> Option<Outcome>
         ensures asked { IsAsked (B.refuses backend.now) (called_by (B.submits backend.now) (B.finishes backend.now) token) self.old.phase self.old.session result self.new.session }
         ensures reportable { IfSome result (λ outcome. IsReportable outcome) }
@@ -369,7 +369,7 @@ impl<T> ConnectionState<T> {
         ensures codec { self.new.codec ≡ self.old.codec }
         ensures calls { self.new.calls ≡ self.old.calls }
     {
-        let submit_token = unsent.make(token, load);
+        let submit_token = unsent.make(token, reach);
         let Phase::Waits(request) = &self.phase else {
             drop(submit_token);
             return None;

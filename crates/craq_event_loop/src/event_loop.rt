@@ -15,12 +15,12 @@ ghost use Rattle.craq_event_loop.specs.Reaching.{AreReachable, StayReachable};
 ghost use Rattle.craq_event_loop.specs.Rounds.{MoveUp, left_after};
 ghost use Rattle.craq_event_loop.specs.Serving.{ReadsAt, Serves, WritesAt};
 
+use crate::ReceiptPolicy;
 use crate::backend::{LoopBackend, NewConnection};
 use crate::connection::{Connection, MOST_STEPS, Share, register};
 use crate::socket::Socket;
 use crate::traffic::ClientStream;
-use crate::{Load, ReceiptPolicy};
-use craq_seat::Completion;
+use craq_seat::{Completion, Reach};
 use mio::event::{Event, Events};
 use mio::{Poll, Registry, Token, Waker};
 use slab::Slab;
@@ -55,14 +55,14 @@ const MOST_LOOKS: u32 = 200;
 fn share_of(busy: usize) -> Share
     ensures { result.steps ≡ most_steps }
 {
-    let load = match busy {
-        0 | 1 => Load::Single,
-        _ if busy <= LIGHT_LOAD => Load::Light,
-        _ => Load::Full,
+    let reach = match busy {
+        0 | 1 => Reach::WholeChain,
+        _ if busy <= LIGHT_LOAD => Reach::WholeChainLater,
+        _ => Reach::OneNode,
     };
     Share {
         steps: MOST_STEPS,
-        load,
+        reach,
     }
 }
 

@@ -27,5 +27,5 @@ pub use door_calls::ReceiptPolicy;
 pub use event_loop::{EventLoop, LoopSettings};
 pub use laws::each_call_has_its_number;
 pub use own_thread::serve_one;
-pub use submitting::{Load, SubmitToken, UnsentCall};
+pub use submitting::{SubmitToken, UnsentCall};
 pub use traffic::{ClientStream, Traffic};

@@ -8,7 +8,8 @@ ghost use Rattle.craq_event_loop.specs.Reaching.{IsReachable, ReachesOn};
 use crate::backend::NewConnection;
 use crate::connection::{Connection, MOST_STEPS, Share};
 use crate::socket::Socket;
-use crate::{BlockingBackend, ConnectionState, Load, ReceiptPolicy};
+use crate::{BlockingBackend, ConnectionState, ReceiptPolicy};
+use craq_seat::Reach;
 use std::alloc::Global;
 use std::sync::Wait;
 
@@ -21,13 +22,13 @@ const KEY: usize = 0;
 /// The steps of one request, and one that looks for the next.
 const FIRST: Share = Share {
     steps: MOST_STEPS,
-    load: Load::Single,
+    reach: Reach::WholeChain,
 };
 
 /// All steps that there are to take: at most those of the requests of one read.
 const REST: Share = Share {
     steps: usize::MAX,
-    load: Load::Single,
+    reach: Reach::WholeChain,
 };
 
 impl<S: Socket, T> Connection<S, T> {

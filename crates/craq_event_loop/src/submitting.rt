@@ -4,7 +4,7 @@ ghost use Rattle.std.specs.Prelude.{◌≡◌, IfSome};
 ghost use Rattle.craq_event_loop.specs.SubmittedCalls.{IsRefusedAtOnce, IsReportable, IsSubmitted};
 
 use crate::{AsyncBackend, CallRequest};
-use craq_seat::{CallToken, Outcome};
+use craq_seat::{CallToken, Outcome, Reach};
 
 /// A call that a step made (`Stepped::Calls`). Only a step makes one, in `phases`, and only
 /// `ConnectionState::ask` takes one. It is neither `Copy` nor `Drop`, so each call that a step made
@@ -21,13 +21,13 @@ impl UnsentCall {
     }
 
     /// Turns the mark into the right to submit the call under this token.
-    pub(crate) fn make(self, token: CallToken, load: Load) -> SubmitToken
+    pub(crate) fn make(self, token: CallToken, reach: Reach) -> SubmitToken
         ensures { result.token ≡ token }
     {
         let UnsentCall { _made: () } = self;
         SubmitToken {
             token,
-            load,
+            reach,
             _made: (),
         }
     }
@@ -39,20 +39,8 @@ impl UnsentCall {
 #[derive(Debug, Drop)]
 pub struct SubmitToken {
     pub token: CallToken,
-    pub load: Load,
+    pub reach: Reach,
     _made: (),
-}
-
-/// The load of a thread that asks calls.
-#[derive(Debug, Clone, Copy, PartialEq, Eq)]
-pub enum Load {
-    /// One of its connections is busy: the call's steps may be taken at once.
-    Single,
-    /// Few of its connections are busy: the call's steps may wait until the calls of all of them
-    /// were submitted. The thread then has them taken (`LoopBackend::run_queued`).
-    Light,
-    /// More of them are busy.
-    Full,
 }
 
 /// Submits a call in the session. Returns its outcome if it comes at once; else `None`, and a

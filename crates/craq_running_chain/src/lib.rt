@@ -13,6 +13,6 @@ mod work;
 
 pub use chain::{Chain, Open, RoutingTable, refuse_queued};
 pub use rest::Rest;
-pub use shared::{AskedChain, Reach, Shared, Wakes, possible_refusal};
+pub use shared::{AskedChain, Shared, Wakes, possible_refusal};
 pub use wake_up::WakeUp;
 pub use work::{Worker, master_of, run_worker};

@@ -15,7 +15,7 @@ use craq_node::Core;
 use craq_running_node::{
     Asked, Delivery, Kind, Messages, Outgoing, OwnAsk, OwnReply, QueuedAsk, RunningNode, refuse_own,
 };
-use craq_seat::{CompletionSender, is_update, refusal_of_call};
+use craq_seat::{CompletionSender, Reach, is_update, refusal_of_call};
 use craq_store_history::{HistoryEntry, StoreRule};
 use craq_store_parts::{CallRefusal, Gate, Refused, StoreHistory, Wire, Work};
 use std::alloc::Global;
@@ -43,18 +43,6 @@ pub enum Wakes {
     ChainThread,
     /// None: the sender runs the chain's nodes itself.
     Nobody,
-}
-
-/// The part of a chain that a caller may run for its own request.
-#[derive(Clone, Copy)]
-pub enum Reach {
-    /// The node that it asks, for a read. An update waits in the queue of its node.
-    OneNode,
-    /// All nodes of the chain: the caller has no other request.
-    WholeChain,
-    /// All nodes of the chain, once the caller has sent its other requests too. It then calls
-    /// `Shared::run_queued`.
-    WholeChainLater,
 }
 
 /// The chain that a request goes to, and the part of it that the caller may run.

@@ -1,5 +1,5 @@
 //! `answer_of_call` and `pass_after`: the reply in a receipt that is the caller's own, and the pass
-//! after it; for clients and request handlers.
+//! after it; for clients and connections.
 ghost use Rattle.std.specs.Prelude.{◌≡◌, ◌⊎◌, ◌↔◌, max, Err, IfOk, IfErr, IsTrue};
 ghost use Rattle.craq_seat.specs.CallCompletions.{IsCallOf};
 ghost use Rattle.craq_node_invariant.specs.Sound.{IsEncodableAnswer};

@@ -1,5 +1,5 @@
-//! `Cell`: a node whose steps have stamps and, if a journal is kept, are recorded in it; used by
-//! `desk` and by the audit.
+//! `Cell`: a node whose steps have stamps and, if a journal is kept, are recorded in it. A desk has
+//! one; the audit reads its journal.
 ghost use Rattle.std.specs.Prelude.{◌≡◌, ◌<◌, IfOk, IfErr, IfSome, IsNone, IsOk, OnOk, vec_capacity, vec_len};
 ghost use Rattle.std.specs.Option.{option_copied};
 ghost use Rattle.craq_model.specs.Plain.{Plain};

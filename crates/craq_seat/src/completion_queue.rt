@@ -1,5 +1,5 @@
-//! `CompletionQueue`: the completion queue of one thread or one client; made by the clients of
-//! `craq_workers` and the event loops of `craq_server`.
+//! `CompletionQueue`: the completion queue of one thread or one client. The clients of
+//! `craq_workers` and the threads of `craq_server` that serve connections make one each.
 use crate::queue_state::{Completion, Outcome, QueueState};
 use crate::token::CallToken;
 use mio::Waker;

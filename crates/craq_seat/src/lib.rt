@@ -47,4 +47,4 @@ pub use refusing::{is_update, refusal_of_call};
 pub use seat::{Caller, Seat, Seated};
 pub use sorting::receipts_by_chain;
 pub use ticket_queue::{TicketQueue, Ticketed};
-pub use token::CallToken;
+pub use token::{CallToken, Reach};

@@ -42,7 +42,7 @@ impl<T: Drop> Model for QueueState<T> {
 }
 
 impl<T: Drop> QueueState<T> {
-    /// Makes an empty pile that expects nothing. Takes no memory.
+    /// Makes an empty queue that expects nothing. Takes no memory.
     pub(crate) fn new(alloc: Global) -> Self
         ensures { result ≡ record { completions = []; expected = 0; reported = false; sleeps = false } }
     {

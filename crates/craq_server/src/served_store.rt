@@ -15,32 +15,19 @@ use crate::passes::Passes;
 use crate::status::status_text;
 use crate::store_session::StoreSession;
 use craq_event_loop::{
-    AsyncBackend, Backend, BlockingBackend, CallRequest, ConnectionState, Load, SubmitToken,
+    AsyncBackend, Backend, BlockingBackend, CallRequest, ConnectionState, SubmitToken,
 };
 use craq_frames::Text;
 use craq_names::Refusal;
 use craq_node::Core;
 use craq_seat::{CallReceipt, Completion, CompletionQueue, pass_after, refusal_of_call};
-use craq_workers::{Asked, CallRefusal, Destination, Gate, Named, Reach, Store};
+use craq_workers::{Asked, CallRefusal, Destination, Gate, Named, Store};
 use std::alloc::{AllocError, Global};
 use std::sync::{Arc, Wait};
 
 /// The outcome of a call at the store: its reply, with what shows that a node of the store gave it,
 /// or the refusal.
 pub(crate) type StoreOutcome<C> = craq_workers::CallOutcome<C>;
-
-/// Returns the part of a chain that a thread of this load may run for a request.
-fn reach_of(load: Load) -> Reach
-    ensures single { load ≡ Load.Single → result ≡ Reach.WholeChain }
-    ensures light { load ≡ Load.Light → result ≡ Reach.WholeChainLater }
-    ensures full { load ≡ Load.Full → result ≡ Reach.OneNode }
-{
-    match load {
-        Load::Single => Reach::WholeChain,
-        Load::Light => Reach::WholeChainLater,
-        Load::Full => Reach::OneNode,
-    }
-}
 
 /// A running store as the connections of one thread call it. A request whose pass lies too far
 /// above the largest returned (`Passes`) is refused `Exhausted` and reaches no node. Each connection
@@ -91,7 +78,7 @@ where
                 token: submit_token.token,
             },
         };
-        let reach = reach_of(submit_token.load);
+        let reach = submit_token.reach;
         match self.store.submit(&self.rt, &request.ask, own, reach) {
             Ok(None) => Ok(None),
             Ok(Some(answered)) => Ok(Some(Ok(answered))),

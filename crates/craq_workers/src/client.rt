@@ -20,9 +20,11 @@ use craq_ghost_history::Named;
 use craq_model::{Answer, Ask};
 use craq_names::{Copied, NodeName, Pass, Refusal};
 use craq_node::Core;
-use craq_running_chain::{AskedChain, Reach, Shared, possible_refusal};
+use craq_running_chain::{AskedChain, Shared, possible_refusal};
 use craq_running_node::{Asked, CallOutcome, Destination};
-use craq_seat::{CallReceipt, CallToken, Completion, CompletionQueue, answer_of_call, pass_after};
+use craq_seat::{
+    CallReceipt, CallToken, Completion, CompletionQueue, Reach, answer_of_call, pass_after,
+};
 use craq_store_history::CallId;
 use craq_store_parts::{
     AnsweredCall, CallRefusal, Gate, MadeAsk, RefusalMoment, Session, StoreHistory, StoreToken,

@@ -16,9 +16,8 @@ mod store;
 
 pub use client::Client;
 pub use craq_ghost_history::Named;
-pub use craq_running_chain::Reach;
 pub use craq_running_node::{Asked, CallOutcome, Destination, OwnReply};
-pub use craq_seat::{CallToken, Completion, CompletionQueue};
+pub use craq_seat::{CallToken, Completion, CompletionQueue, Reach};
 pub use craq_store_history::CallId;
 pub use craq_store_parts::{AnsweredCall, At, CallRefusal, Gate, MadeAsk, OpenGate, Session, Work};
 pub use history::{OpenedHistory, open_history};

@@ -29,13 +29,13 @@ use craq_names::{ChainId, Copied, NodeId, NodeName, Pass, Refusal, Stamp};
 use craq_node::Core;
 use craq_place::Plan;
 use craq_running_chain::{
-    AskedChain, Chain, Reach, Shared, Wakes, Worker, master_of, refuse_queued, run_worker,
+    AskedChain, Chain, Shared, Wakes, Worker, master_of, refuse_queued, run_worker,
 };
 use craq_running_node::{
     JoinedNode, Messages, OwnAsk, OwnReply, RecordedDesk, Route, RunningNode, StepCalls, dismiss,
     open_joined, refuse_callers, refuse_own,
 };
-use craq_seat::{BookCell, BookEvent, Cell, Desk, Receipt};
+use craq_seat::{BookCell, BookEvent, Cell, Desk, Reach, Receipt};
 use craq_store_history::{HistoryEntry, StoreRule};
 use craq_store_parts::{
     Cause, Gate, Origin, Session, StoppedNode, StoreHistory, StoreToken, StoreWriter,
@@ -344,8 +344,9 @@ impl<C: Core + Named, G: Gate> Store<C, G> {
     ///
     /// After `None` exactly one completion with the caller's token comes into its queue. It holds
     /// the reply, or a refusal. `Stopped`, `Closed` and `Memory` can always come, and the refusals of
-    /// the node if the request was queued. `finish_ask` tells of a reply whether it is of this call. `give_up_ask` tells
-    /// of a refusal whether a step may have accepted the call, and when the node refused it.
+    /// the node if the request was queued. `finish_ask` tells of a reply whether it is of this call.
+    /// `give_up_ask` tells of a refusal whether a step may have accepted the call, and when the node
+    /// refused it.
     ///
     /// Refused as `Client::call` is, and then no completion comes: with `UnknownChain` exactly if
     /// the store has no such chain. A reply that comes at once is of a node's step of this request

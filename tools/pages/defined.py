@@ -10,7 +10,7 @@ TYPES = "src/"
 # A claim, its contract (file and function), and how the page names the function.
 CLAIMS = (("Every run is explained", "craq_promise/src/lib.rt", "every_run_is_explained", ""),
           ("Chains in one thread keep that", "craq_world/src/world.rt", "take", "World::take"),
-          ("A node as code takes the defined step", "craq_node/src/core.rt", "step", "Core::step"),
+          ("A node as code takes the defined step", "craq_node/src/core_trait.rt", "step", "Core::step"),
           ("An audit that merges found a run", "craq_audit/src/auditing.rt", "audit", ""),
           ("The replies of a connection", "craq_front/src/serving.rt", "serve", ""),
           ("A chain recovers", "craq_recovery/src/lib.rt", "chains_recover", ""),

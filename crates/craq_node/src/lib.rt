@@ -3,10 +3,10 @@
 #![tactic(auto)]
 
 mod admitting;
-mod core;
+mod core_trait;
 mod fitting;
 mod heeding;
 mod node_core;
 
-pub use core::Core;
+pub use core_trait::Core;
 pub use node_core::NodeCore;

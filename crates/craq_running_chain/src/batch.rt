@@ -19,10 +19,10 @@ use craq_names::{ChainId, Refusal, Seq};
 use craq_node::Core;
 use craq_running_node::{
     ArrivedEvent, Delivery, Messages, OwedAck, OwnAsk, OwnReply, QueuedAsk, Replies, RunningNode,
-    SeatedNode, entries_of, lone_entry_of, messages_of, owed_by, refuse_asked, refuse_own,
+    SeatedNode, Wire, entries_of, lone_entry_of, messages_of, owed_by, refuse_asked, refuse_own,
     take_event, take_own_ask, take_queued_ask,
 };
-use craq_store_parts::{Gate, Wire, Work};
+use craq_store_parts::{Gate, Work};
 use std::alloc::Global;
 use std::mem;
 use std::sync::{Arc, MutexGuard, Wait};

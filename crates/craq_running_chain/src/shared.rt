@@ -13,11 +13,12 @@ use craq_model::Ask;
 use craq_names::{ChainId, NodeId, NodeName, Refusal};
 use craq_node::Core;
 use craq_running_node::{
-    Asked, Delivery, Kind, Messages, Outgoing, OwnAsk, OwnReply, QueuedAsk, RunningNode, refuse_own,
+    Asked, Delivery, Kind, Messages, Outgoing, OwnAsk, OwnReply, QueuedAsk, RunningNode, Wire,
+    refuse_own,
 };
 use craq_seat::{CompletionSender, Reach, is_update, refusal_of_call};
 use craq_store_history::{HistoryEntry, StoreRule};
-use craq_store_parts::{CallRefusal, Gate, Refused, StoreHistory, Wire, Work};
+use craq_store_parts::{CallRefusal, Gate, Refused, StoreHistory, Work};
 use std::alloc::Global;
 use std::sync::{Mutex, Wait};
 

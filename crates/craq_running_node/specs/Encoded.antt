@@ -12,7 +12,8 @@ use Rattle.craq_wire.specs.Encoding.{Encodes}
 use Rattle.craq_seat.specs.declared.journal.Receipt.{Receipt}
 use Rattle.craq_seat.specs.Numbered.{named}
 use Rattle.craq_store_history.specs.declared.entry.HistoryEntry.{HistoryEntry}
-use Rattle.craq_store_parts.specs.Sent.{AreSentBytes, Wired}
+use Rattle.craq_store_history.specs.Entries.{lines_in}
+use Rattle.craq_causality.specs.Causal.{WasSent}
 use Rattle.craq_running_node.specs.declared.encoding.Kind.{Kind}
 use Rattle.craq_running_node.specs.declared.encoding.Kind.TheVariants as kinds
 use Rattle.craq_running_node.specs.declared.encoding.Sent.{Sent}
@@ -121,6 +122,17 @@ CanAdd receipt n (outs.Answer ticket answer) = ⊤
 abbrev pub Adds : Receipt → List Sent → List Sent → Out → Type 0
 Adds receipt old new (outs.Send to m) = (s : Sent) × (new ≡ old ++ s ∷ []) × IsSentAs s (named receipt (length old) m)
 Adds receipt old new (outs.Answer ticket answer) = new ≡ old
+
+-- in this history a node of the chain, or its master, sent a message that these bytes encode
+pub record AreSentBytes (chain : ℕ) (bytes : List ℕ) (log : List HistoryEntry) : Type 0 where
+  pub message : LinkMessage
+  pub spelled : Encodes message bytes
+  pub sent : WasSent (lines_in chain log) message
+
+-- the view that contracts have of bytes on their way
+pub record Wired : Type 0 where
+  pub chain : ℕ
+  pub bytes : List ℕ
 
 -- in this history each of these messages was sent
 abbrev pub AreWired : ℕ → List HistoryEntry → List Sent → Type 0

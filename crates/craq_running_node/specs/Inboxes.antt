@@ -1,6 +1,6 @@
 -- The items that wait at a node.
 use Rattle.std.specs.Prelude.{◌≡◌, Option, Some, IfSome}
-use Rattle.craq_store_parts.specs.declared.wire.Wire.{Wire}
+use Rattle.craq_running_node.specs.declared.messages.Wire.{Wire}
 use Rattle.craq_running_node.specs.declared.inbox.Delivery.{Delivery}
 use Rattle.craq_running_node.specs.declared.inbox.Delivery.TheVariants as brings
 use Rattle.craq_running_node.specs.declared.inbox.Waiting.{Waiting}

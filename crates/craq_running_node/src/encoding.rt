@@ -1,28 +1,21 @@
-//! Encodes the messages of a step for their way to other nodes, and tells the steps whose messages
-//! can wait: one that only sends an entry, and one that only acknowledges (`LoneAck`). `Messages`
-//! and `OwedAck` hold what goes out, with a token that has seen the step. For `steps`, and for the
-//! batches of `craq_running_chain`.
+//! Encodes the messages of a step, and tells the steps whose messages can wait: one that only sends
+//! an entry, and one that only acknowledges (`LoneAck`). For `messages`.
 ghost use Rattle.std.specs.Prelude.{◌≡◌, ◌≤◌, ◌^◌, ◌==◌, ◌∷◌, [], length, nat_le, IfOk, IfSome, IsNone, None, OnOk};
 ghost use Rattle.std.specs.List.{AllByRecursion, list_any};
 ghost use Rattle.craq_runs.specs.Chain.{sent_in};
-ghost use Rattle.craq_causality.specs.Causal.{WasSent};
 ghost use Rattle.craq_seat.specs.Numbered.{CanBeSent, named, numbered_from};
 ghost use Rattle.craq_model.specs.Encodable.{IsEncodable};
-ghost use Rattle.craq_store_history.specs.Entries.{lines_in};
 ghost use Rattle.craq_running_node.specs.declared.encoding.Kind.TheVariants as kinds;
-ghost use Rattle.craq_running_node.specs.Encoded.{Adds, AreSentAs, AreWired, CanAdd, IsOutgoing, IsSentAs, MakesNeedless, OnlySends, Sends, brings_from, entries_from, link_class, lone_position};
+ghost use Rattle.craq_running_node.specs.Encoded.{Adds, AreSentAs, CanAdd, IsSentAs, MakesNeedless, OnlySends, Sends, brings_from, entries_from, link_class, lone_position};
 
 use bytes::Bytes;
 use craq_commands::Entry;
-use craq_ghost_history::Named;
 use craq_model::{Body, LinkMessage, Out, Step};
 use craq_names::{ChainId, Epoch, NodeId, Seq, Stamp};
 use craq_seat::Receipt;
-use craq_store_parts::{StoreHistory, StoreToken, Wire};
 use craq_wire::{encode, encode_as};
 use std::alloc::{AllocError, Global};
 use std::marker::Model;
-use std::vec::IntoIter;
 
 /// Message classes that links and batches treat differently.
 #[derive(Clone, Copy, Debug, PartialEq, Eq)]
@@ -134,7 +127,11 @@ fn add_out(
 }
 
 /// Encodes the messages among outs, in order.
-fn encode_outs(alloc: Global, outs: &[Out], receipt: &Receipt) -> Result<Vec<Sent>, AllocError>
+pub(crate) fn encode_outs(
+    alloc: Global,
+    outs: &[Out],
+    receipt: &Receipt,
+) -> Result<Vec<Sent>, AllocError>
     requires few { length (sent_in outs.now) ≤ 2 ^ 32 }
     requires spelled { AllByRecursion IsEncodable (numbered_from 0 receipt.now (sent_in outs.now)) }
     ensures { IfOk result (λ sent. AreSentAs sent.items (numbered_from 0 receipt.now (sent_in outs.now))) }
@@ -146,20 +143,8 @@ fn encode_outs(alloc: Global, outs: &[Out], receipt: &Receipt) -> Result<Vec<Sen
     Ok(sent)
 }
 
-/// Encodes the messages that a step sends, in order.
-///
-/// Each has the receipt's node as its sender, the receipt's stamp, and its index among them, from 0
-/// (`craq_seat::numbered`). Fails only when out of memory.
-#[tactic(auto, using(craq_seat::proofs::Sending::sent_encodable))]
-pub fn encode_sent(alloc: Global, step: &Step, receipt: Receipt) -> Result<Vec<Sent>, AllocError>
-    requires { CanBeSent receipt step.now.outs }
-    ensures { IfOk result (λ sent. AreSentAs sent.items (numbered_from 0 receipt (sent_in step.now.outs))) }
-{
-    encode_outs(alloc, step.outs.as_slice(), &receipt)
-}
-
 /// Encodes those messages among outs that bring an entry of this position or a later one, in order.
-fn encode_bringing(
+pub(crate) fn encode_bringing(
     alloc: Global,
     outs: &[Out],
     receipt: &Receipt,
@@ -183,23 +168,6 @@ fn encode_bringing(
         }
     }
     Ok(sent)
-}
-
-/// Encodes those messages of a step that bring an entry of this position or a later one, in order.
-///
-/// Each has the receipt's node as its sender, the receipt's stamp, and its index among all messages
-/// of the step, from 0. Fails only when out of memory.
-#[tactic(auto, using(craq_seat::proofs::Sending::sent_encodable))]
-pub fn encode_entries(
-    alloc: Global,
-    step: &Step,
-    receipt: Receipt,
-    first: Seq,
-) -> Result<Vec<Sent>, AllocError>
-    requires { CanBeSent receipt step.now.outs }
-    ensures { IfOk result (λ sent. AreSentAs sent.items (entries_from first (numbered_from 0 receipt (sent_in step.now.outs)))) }
-{
-    encode_bringing(alloc, step.outs.as_slice(), &receipt, first)
 }
 
 /// The acknowledgement of a step that does nothing else, under the step's receipt. A contract sees
@@ -320,139 +288,5 @@ impl LoneAck {
             kind: Kind::Ack,
             bytes: encode(alloc, &message)?,
         })
-    }
-}
-
-/// A message on its way to a node, and its class.
-#[derive(Drop)]
-pub struct Outgoing<N: Named> {
-    pub to: NodeId,
-    pub kind: Kind,
-    pub wire: Wire<N>,
-}
-
-/// Encoded messages, in order, each of which was sent in the token's history. A contract sees those
-/// that are left.
-#[derive(Drop)]
-pub struct Messages<N: Named> {
-    chain: ChainId,
-    left: IntoIter<Sent>,
-    token: StoreToken<N>,
-}
-
-impl<N: Named> Model for Messages<N> {
-    ghost use Rattle.craq_running_node.specs.Encoded.{AreWired, Leaving};
-
-    ghost Value = { Leaving };
-
-    ghost view = { λ m. record { chain = m.chain; sent = m.left.rest.items } };
-
-    ghost invariant = { λ m. AreWired m.chain m.token m.left.rest.items };
-}
-
-impl<N: Named> Messages<N> {
-    /// Takes messages that were sent in the token's history.
-    pub fn new(chain: ChainId, sent: Vec<Sent>, token: StoreToken<N>) -> Self
-        requires { AreWired chain token sent.items }
-        ensures { result ≡ record { chain = chain; sent = sent.items } }
-    {
-        Messages {
-            chain,
-            left: sent.into_iter(),
-            token,
-        }
-    }
-
-    /// Returns whether no message is left. Never allocates.
-    pub fn is_empty(&self) -> bool
-        ensures { result ≡ (length self.now.sent == 0) }
-    {
-        self.left.len() == 0
-    }
-
-    /// Takes the next message, if one is left.
-    pub fn next(&mut self, history: &StoreHistory<N>) -> Option<Outgoing<N>>
-        ensures next { IfSome result (λ o. IsOutgoing self.old o.to o.kind o.wire self.new) }
-        ensures none { result ≡ None → self.old.sent ≡ [] }
-    {
-        match self.left.next() {
-            None => None,
-            Some(message) => {
-                let Sent { to, kind, bytes } = message;
-                let token = self.token.again(history);
-                Some(Outgoing {
-                    to,
-                    kind,
-                    wire: Wire::new(self.chain, bytes, token),
-                })
-            }
-        }
-    }
-}
-
-/// The acknowledgement of a step that does nothing else, which was sent in the token's history. It
-/// has no drop: its holder encodes it, or lets it give way. A contract sees the message.
-pub struct OwedAck<N: Named> {
-    chain: ChainId,
-    ack: LoneAck,
-    token: StoreToken<N>,
-}
-
-impl<N: Named> Model for OwedAck<N> {
-    ghost use Rattle.craq_model.specs.declared.message.LinkMessage.{LinkMessage};
-    ghost use Rattle.craq_causality.specs.Causal.{WasSent};
-    ghost use Rattle.craq_store_history.specs.Entries.{lines_in};
-
-    ghost Value = { LinkMessage };
-
-    ghost view = { λ o. o.ack };
-
-    ghost invariant = { λ o. WasSent (lines_in o.chain o.token) o.ack };
-}
-
-impl<N: Named> OwedAck<N> {
-    /// Owes an acknowledgement that was sent in the token's history.
-    pub fn new(chain: ChainId, ack: LoneAck, token: StoreToken<N>) -> Self
-        requires { WasSent (lines_in chain token) ack }
-        ensures { result ≡ ack }
-    {
-        OwedAck { chain, ack, token }
-    }
-
-    /// Drops this acknowledgement if `later` makes it needless, and else gives it back. Takes no
-    /// memory.
-    pub fn give_way(self, later: &Self) -> Option<Self>
-        ensures gone { IsNone result → MakesNeedless later.now self }
-        ensures stays { IfSome result (λ ack. (ack ≡ self) × ¬ (MakesNeedless later.now self)) }
-    {
-        let OwedAck { chain, ack, token } = self;
-        match ack.give_way(&later.ack) {
-            None => {
-                drop(token);
-                None
-            }
-            Some(ack) => Some(OwedAck { chain, ack, token }),
-        }
-    }
-
-    /// Encodes the acknowledgement. Fails only when out of memory.
-    pub fn encode(self, alloc: Global) -> Result<Outgoing<N>, AllocError>
-        ensures { IfOk result (λ o. IsSentAs (record { to = o.to; kind = o.kind; bytes = o.wire.bytes }) self) }
-    {
-        let OwedAck { chain, ack, token } = self;
-        match ack.encode(alloc) {
-            Err(failed) => {
-                drop(token);
-                Err(failed)
-            }
-            Ok(sent) => {
-                let Sent { to, kind, bytes } = sent;
-                Ok(Outgoing {
-                    to,
-                    kind,
-                    wire: Wire::new(chain, bytes, token),
-                })
-            }
-        }
     }
 }

@@ -5,8 +5,9 @@ ghost use Rattle.craq_running_node.specs.Inboxes.{Gives, WaitsAs};
 
 use crate::asked::QueuedAsk;
 use crate::encoding::Kind;
+use crate::messages::Wire;
 use craq_ghost_history::Named;
-use craq_store_parts::{Losses, Wire};
+use craq_store_parts::Losses;
 use crossbeam_channel::{Receiver, SendError, Sender};
 use std::alloc::{AllocError, Global};
 use std::sync::atomic::{AtomicBool, Ordering};

@@ -1,32 +1,17 @@
--- Values on their way between the parts of a store: bytes of messages that were sent, calls that were made, and refusals that give a
--- call back.
+-- Values on their way between the parts of a store: calls that were made, and refusals that give a call back.
 use Rattle.std.specs.Prelude.{◌≡◌, ℕ, List, [], Option, Result, Ok, Err, option_map}
 use Rattle.std.specs.declared.snapshot.Snapshot.{Snapshot}
 use Rattle.craq_names.specs.declared.name.NodeName.{NodeName}
 use Rattle.craq_names.specs.declared.refusal.Refusal.{Refusal}
 use Rattle.craq_seat.specs.declared.journal.Receipt.{Receipt}
 use Rattle.craq_model.specs.declared.ask.Ask.{Ask}
-use Rattle.craq_model.specs.declared.message.LinkMessage.{LinkMessage}
-use Rattle.craq_wire.specs.Encoding.{Encodes}
-use Rattle.craq_causality.specs.Causal.{WasSent}
 use Rattle.craq_ghost_history.specs.declared.author.Author.TheVariants.{Client}
 use Rattle.craq_ghost_history.specs.Histories.{IsAdded, Written}
 use Rattle.craq_store_history.specs.declared.entry.CallId.{CallId}
 use Rattle.craq_store_history.specs.declared.entry.HistoryEntry.{HistoryEntry}
 use Rattle.craq_store_history.specs.declared.entry.HistoryEntry.TheVariants.{ClientCall}
-use Rattle.craq_store_history.specs.Entries.{author_of, lines_in}
+use Rattle.craq_store_history.specs.Entries.{author_of}
 use Rattle.craq_store_history.specs.Steps.{MayMake}
-
--- in this history a node of the chain, or its master, sent a message that these bytes encode
-pub record AreSentBytes (chain : ℕ) (bytes : List ℕ) (log : List HistoryEntry) : Type 0 where
-  pub message : LinkMessage
-  pub spelled : Encodes message bytes
-  pub sent : WasSent (lines_in chain log) message
-
--- the view that contracts have of bytes on their way
-pub record Wired : Type 0 where
-  pub chain : ℕ
-  pub bytes : List ℕ
 
 -- the view that contracts have of a request whose call was made
 pub record Made : Type 0 where

@@ -1,5 +1,5 @@
 //! `Cause` and `Origin`: what a node's event follows, a call that was made or a message that was
-//! sent; for `recorded_desk`.
+//! sent; for the recorded desks of `craq_running_node`.
 ghost use Rattle.std.specs.Prelude.{◌≡◌, None, Some, option_map};
 ghost use Rattle.craq_store_history.specs.Entries.{permit_for};
 ghost use Rattle.craq_store_parts.specs.Sent.{made_in};

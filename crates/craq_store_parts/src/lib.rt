@@ -1,10 +1,9 @@
 //! Values that go between the threads of a store, and what each of them keeps of the store's
-//! history. A message on its way, a call from request to reply, a refusal and a session each carry a
-//! token of the history. A token has no bytes, and its type keeps the fact.
+//! history. A call from request to reply, a refusal and a session each carry a token of the history.
+//! A token has no bytes, and its type keeps the fact.
 //!
 //! Has also the hooks round each piece of work (`Gate`), and a count of the messages that were lost
-//! because memory ended (`Losses`). For `craq_running_node`, which records steps and sends messages,
-//! and for the crates above.
+//! because memory ended (`Losses`). For `craq_running_node` and the crates above.
 //! Code that runs in the programs.
 #![tactic(auto)]
 
@@ -19,7 +18,6 @@ mod made_ask;
 mod refused;
 mod session;
 mod stopped_node;
-mod wire;
 
 pub use answered_call::{Acceptance, AcceptedCall, AnsweredCall, StepReceipt};
 pub use at::At;
@@ -34,7 +32,6 @@ pub use made_ask::MadeAsk;
 pub use refused::{RefusalMoment, Refused};
 pub use session::Session;
 pub use stopped_node::StoppedNode;
-pub use wire::Wire;
 
 /// The history of a store.
 pub type StoreHistory<N> = GhostHistory<HistoryEntry, StoreRule, N>;

@@ -11,7 +11,7 @@ use Rattle.craq_running_node.specs.Encoded.{OnlySends}
 use Rattle.craq_store_history.specs.Entries.{lines_in}
 use Rattle.craq_store_parts.specs.Recorded.{HasStep}
 use Rattle.craq_running_node.proofs.Sending.{lone_sent}
-use Rattle.craq_running_node.proofs.last_step.owed_by.Goals as goal
+use Rattle.craq_running_node.proofs.messages.owed_by.Goals as goal
 
 -- a conclusion from two facts of the last step, where there is an acknowledgement and so a step
 by_last : (P : Type 0) (first second : Step → Type 0) (ack : LinkMessage) (last : Option Step) → IfSome last first → IfSome last second → (last ≡ None → IsNone (Some ack)) → ((s : Step) → first s → second s → P) → P

@@ -7,7 +7,7 @@ use Rattle.craq_seat.specs.Cells.{receipt_of}
 use Rattle.craq_seat.specs.Numbered.{numbered_from}
 use Rattle.craq_running_node.specs.Encoded.{AreSentAs, entries_from}
 use Rattle.craq_running_node.proofs.Sending.{entries_wired}
-use Rattle.craq_running_node.proofs.last_step.entries_of.Goals as goal
+use Rattle.craq_running_node.proofs.messages.entries_of.Goals as goal
 
 pub new-requires : goal.new-requires
 new-requires g c =

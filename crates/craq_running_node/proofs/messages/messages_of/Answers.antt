@@ -6,7 +6,7 @@ use Rattle.craq_seat.specs.Cells.{Celled, receipt_of}
 use Rattle.craq_seat.specs.Numbered.{numbered_from}
 use Rattle.craq_running_node.specs.Encoded.{AreSentAs}
 use Rattle.craq_running_node.proofs.Sending.{step_wired}
-use Rattle.craq_running_node.proofs.last_step.messages_of.Goals as goal
+use Rattle.craq_running_node.proofs.messages.messages_of.Goals as goal
 
 pub new-requires : goal.new-requires
 new-requires g c =

@@ -13,5 +13,5 @@ taken_or_refused true taken refused = taken refl
 taken_or_refused false taken refused = refused refl
 
 -- a message that was sent in the node's chain may be delivered
-pub may_hear : (log : List HistoryEntry) (name : NodeName) (chain : ℕ) (m : LinkMessage) → chain ≡ name.chain → WasSent (lines_in chain log) m → MayHappen log name (events.Deliver m) None
-may_hear log name chain m own sent = record { sent = subst (λ (c : ℕ). WasSent (lines_in c log) m) own sent; called = tt }
+pub may_take : (log : List HistoryEntry) (name : NodeName) (chain : ℕ) (m : LinkMessage) → chain ≡ name.chain → WasSent (lines_in chain log) m → MayHappen log name (events.Deliver m) None
+may_take log name chain m own sent = record { sent = subst (λ (c : ℕ). WasSent (lines_in c log) m) own sent; called = tt }

@@ -19,15 +19,15 @@ use Rattle.craq_running_chain.specs.declared.unsent.Unsent.TheVariants as unsent
 use Rattle.craq_running_node.specs.Replies.{PendingReplies, ReactsTo}
 
 -- a node reacts to the message that these bytes encode; out of memory, or if they encode none, it is as it was
-abbrev pub Hears : {C : Type 0} → (C → Plain → Type 0) → SeatedNode C → SeatedNode C → List ℕ → PendingReplies → PendingReplies → Type 0
-Hears represents old new bytes before after =
+abbrev pub TakesMessage : {C : Type 0} → (C → Plain → Type 0) → SeatedNode C → SeatedNode C → List ℕ → PendingReplies → PendingReplies → Type 0
+TakesMessage represents old new bytes before after =
     ((m : LinkMessage) × Encodes m bytes × ReactsTo represents old new (events.Deliver m) before after) ⊎ ((new ≡ old) × (after ≡ before))
 
 -- a node reacts to the item that was brought: to its message, or to a tick
 abbrev pub TakesBrought : {C : Type 0} → (C → Plain → Type 0) → SeatedNode C → SeatedNode C → Delivery C → PendingReplies → PendingReplies → Type 0
-TakesBrought represents old new (brings.Message wire) before after = Hears represents old new wire.bytes before after
-TakesBrought represents old new (brings.Ack wire) before after = Hears represents old new wire.bytes before after
-TakesBrought represents old new (brings.Blank wire) before after = Hears represents old new wire.bytes before after
+TakesBrought represents old new (brings.Message wire) before after = TakesMessage represents old new wire.bytes before after
+TakesBrought represents old new (brings.Ack wire) before after = TakesMessage represents old new wire.bytes before after
+TakesBrought represents old new (brings.Blank wire) before after = TakesMessage represents old new wire.bytes before after
 TakesBrought represents old new brings.Tick before after = ReactsTo represents old new events.Tick before after
 
 -- if a cell's last step only acknowledges, that acknowledgement is owed

@@ -8,7 +8,7 @@ ghost use Rattle.craq_node.specs.Represented.{CanArrive};
 ghost use Rattle.craq_running_chain.specs.declared.unsent.Unsent.TheVariants as unsent;
 ghost use Rattle.craq_running_node.specs.Replies.{ClosesOwn, ClosesQueued, ReactsTo, RefusesOwn, RefusesQueued, TakesOwn, TakesQueued, in_hand};
 ghost use Rattle.craq_store_parts.specs.Recorded.{MayHappen};
-ghost use Rattle.craq_running_chain.specs.Batches.{Hears, HoldsBack, OwesLast, OwesStill, TakesBrought};
+ghost use Rattle.craq_running_chain.specs.Batches.{TakesMessage, HoldsBack, OwesLast, OwesStill, TakesBrought};
 
 use crate::chain::Chain;
 use crate::shared::{Shared, Wakes};
@@ -139,8 +139,8 @@ impl<'a, C: Core + Named, G: Gate> NodeBatch<'a, C, G> {
     /// Sends what is held back: one entry of the last step as that step sends it; several as the
     /// entries of one tick of the node, in messages of up to 16.
     ///
-    /// Nothing else that the tick sends goes out, and no message of entries that went out before.
-    /// Out of memory, the entries wait for the next tick, as what a link loses does.
+    /// Of the tick's messages only those go out that bring entries which were held back. Out of
+    /// memory, the next tick sends them, as it does after a lost message.
     fn flush<R: Wait>(&mut self, rt: &R)
         ensures unsent { self.new.unsent ≡ unsent.Nothing }
         ensures several { (first : ℕ) → self.old.unsent ≡ unsent.Several first → ReactsTo C.represents (mutex_guard_value self.old.seated) (mutex_guard_value self.new.seated) Event.Tick self.old.replies self.new.replies }
@@ -168,17 +168,17 @@ impl<'a, C: Core + Named, G: Gate> NodeBatch<'a, C, G> {
                     self.post_step(rt);
                 }
             }
-            Delivery::Message(wire) | Delivery::Ack(wire) => self.hear(rt, wire),
+            Delivery::Message(wire) | Delivery::Ack(wire) => self.take_message(rt, wire),
             Delivery::Blank(wire) => {
-                self.hear(rt, wire);
+                self.take_message(rt, wire);
                 self.exit.node.inbox.blank_answered(rt);
             }
         }
     }
 
     /// Takes the step on an encoded message of the node's chain. One of another chain is lost.
-    fn hear<R: Wait>(&mut self, rt: &R, wire: Wire<C>)
-        ensures { Hears C.represents (mutex_guard_value self.old.seated) (mutex_guard_value self.new.seated) wire.bytes self.old.replies self.new.replies }
+    fn take_message<R: Wait>(&mut self, rt: &R, wire: Wire<C>)
+        ensures { TakesMessage C.represents (mutex_guard_value self.old.seated) (mutex_guard_value self.new.seated) wire.bytes self.old.replies self.new.replies }
     {
         if wire.chain() != self.seated.desk.cell().opening().name.chain {
             drop(wire);

@@ -149,7 +149,7 @@ impl<N: Named> Inbox<N> {
         self.brought.is_empty() && self.asks.is_empty()
     }
 
-    /// Returns the place for what is brought, or `None` if one waits already that stands for it.
+    /// Returns the item that waits for what is brought, or `None` if such an item waits already.
     fn admit<R: Wait>(&self, rt: &R, brought: Delivery<N>) -> Option<Waiting<N>>
         ensures { WaitsAs brought result }
     {
@@ -161,7 +161,7 @@ impl<N: Named> Inbox<N> {
         }
     }
 
-    /// Lets in what is brought, unless one waits already that stands for it. Out of memory it is
+    /// Puts what is brought behind what waits, unless such an item waits already. Out of memory it is
     /// lost, and a message counts as a loss.
     pub(crate) fn put<R: Wait>(
         &self,

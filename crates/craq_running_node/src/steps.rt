@@ -1,6 +1,6 @@
 //! Steps of a node whose seat is locked: of a request or another event; and `Replies`, the replies of
-//! these steps, kept until the lock is free. Called by `craq_running_chain`'s batches and by
-//! `craq_workers`, under the lock.
+//! these steps, kept until the lock is free. The batches of `craq_running_chain` call them, under the
+//! lock.
 ghost use Rattle.std.specs.Prelude.{◌≡◌, ◌∷◌, [], None, Some, Err, IfErr, IfOk, IfSome, IsTrue, OnErr, Result, Vec, false, ◌++◌};
 ghost use Rattle.std.specs.Option.{option_copied};
 ghost use Rattle.std.specs.declared.alloc.AllocError.{AllocError};

@@ -102,7 +102,7 @@ pub trait BlockingBackend: AsyncBackend {
     fn wait(&self) -> Self::Reply;
 }
 
-/// A connection that came to an event loop.
+/// A connection that came to an event loop, or to a thread of its own.
 #[derive(Drop)]
 pub struct NewConnection<T> {
     pub stream: ClientStream,

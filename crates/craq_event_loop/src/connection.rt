@@ -302,7 +302,7 @@ impl<S: Socket, T> Connection<S, T> {
 
     /// Takes bytes that came.
     #[tactic(auto, using(crate::proofs::Belonging::heard_waits))]
-    fn hear(&mut self, alloc: Global, bytes: &[u8], now: u64)
+    fn take_bytes(&mut self, alloc: Global, bytes: &[u8], now: u64)
         requires { self.old.state.phase ≡ Idle }
         ensures receives { ReceivesBytes bytes.now self.old.state self.new.state }
         ensures stream { self.new.stream ≡ self.old.stream }
@@ -343,7 +343,7 @@ impl<S: Socket, T> Connection<S, T> {
         match self.stream.take(chunk) {
             Moved::Bytes(count) => {
                 self.readiness.readable = !self.is_drained(count, chunk.len());
-                self.hear(alloc, &chunk[..count], now);
+                self.take_bytes(alloc, &chunk[..count], now);
             }
             Moved::NotReady => self.readiness.readable = false,
             Moved::Interrupted => {}

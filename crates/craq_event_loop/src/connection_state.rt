@@ -11,7 +11,7 @@ ghost use Rattle.craq_event_loop.specs.SubmittedCalls.{IsReportable};
 ghost use Rattle.craq_event_loop.specs.Turns.{IsCalled, kept, name_of};
 
 use crate::door_calls::DoorCalls;
-use crate::phases::{advance, answered};
+use crate::phases::{answered, next_step};
 use crate::submitting::{UnsentCall, submit_call};
 use crate::{AsyncBackend, Backend, ReceiptPolicy};
 use craq_frames::{ClientMessage, ClientReply, ProtocolCodec, is_allowed};
@@ -346,7 +346,7 @@ impl<T> ConnectionState<T> {
         ensures session { self.new.session ≡ self.old.session }
     {
         let phase = mem::replace(&mut self.phase, Phase::Idle);
-        let (phase, stepped) = advance(alloc, backend, &mut self.codec, &mut self.calls, phase);
+        let (phase, stepped) = next_step(alloc, backend, &mut self.codec, &mut self.calls, phase);
         put(&mut self.phase, phase);
         stepped
     }

@@ -12,7 +12,7 @@ use craq_names::Pass;
 use craq_seat::{CallReceipt, pass_after};
 use std::alloc::{AllocError, Global};
 
-/// The receipts that a request handler has of its earlier requests.
+/// The receipts that a connection keeps of its earlier requests.
 #[derive(Debug, Clone, Copy, PartialEq, Eq)]
 pub enum ReceiptPolicy {
     /// All are kept, in order, and handed over at the end.
@@ -21,7 +21,7 @@ pub enum ReceiptPolicy {
     KeepNone,
 }
 
-/// The calls of one request handler.
+/// The calls of one connection.
 #[derive(Drop)]
 pub(crate) struct DoorCalls {
     /// The fate of the receipts of earlier requests.
@@ -32,8 +32,8 @@ pub(crate) struct DoorCalls {
     pub(crate) receipts: Vec<CallReceipt>,
 }
 
-/// Returns the reply with the answer of a call and the pass that the client has after it. A request
-/// handler may give it, since the answer has an encoding.
+/// Returns the reply with the answer of a call and the pass that the client has after it. It may be
+/// sent, since the answer has an encoding.
 #[tactic(auto, using(crate::proofs::Reportable::update_allowed, crate::proofs::Reportable::read_allowed))]
 fn reply_of(answer: Answer, pass: Pass) -> ClientReply
     requires { IsEncodableAnswer answer }

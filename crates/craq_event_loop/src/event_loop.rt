@@ -659,7 +659,7 @@ impl EventLoop {
     }
 
     /// Serves the connections that come, until no more come and all have ended.
-    pub fn attend<R: Wait, H: LoopBackend>(self, rt: &R, backend: &H) {
+    pub fn run<R: Wait, H: LoopBackend>(self, rt: &R, backend: &H) {
         let EventLoop {
             alloc,
             mut poll,

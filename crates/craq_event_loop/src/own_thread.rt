@@ -1,5 +1,5 @@
-//! `serve_one`: serves one connection on the calling thread, over a stream that blocks. It drives the
-//! connection of an event loop (`Connection`), which has no others here.
+//! `serve_one` serves one connection on the calling thread, over a stream that blocks. It drives a
+//! `Connection`, as an event loop drives many.
 ghost use Rattle.std.specs.Prelude.{◌≡◌, ◌⊎◌, IsTrue, false};
 ghost use Rattle.craq_event_loop.specs.SubmittedCalls.{called_by};
 ghost use Rattle.craq_event_loop.specs.Busy.{IsBehind, IsDone, is_waiting};

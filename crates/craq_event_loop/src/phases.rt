@@ -74,7 +74,7 @@ fn begin<C: Backend>(
 }
 
 /// Takes a step. Returns the state after it, and the outcome.
-pub(crate) fn advance<C: Backend>(
+pub(crate) fn next_step<C: Backend>(
     alloc: Global,
     backend: &C,
     codec: &mut ProtocolCodec,

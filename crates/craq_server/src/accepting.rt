@@ -280,7 +280,7 @@ where
 
     /// Serves a connection to its end, hands its receipts over and frees its place.
     #[tactic(auto, using(crate::proofs::Reached::served_reachable))]
-    fn attend(&self, backend: ServedStore<'_, R, C, G>, incoming: Incoming<C>) {
+    fn serve(&self, backend: ServedStore<'_, R, C, G>, incoming: Incoming<C>) {
         let arrival = incoming.into_arrival();
         let slot = arrival.slot;
         let receipts = arrival.receipts;
@@ -311,7 +311,7 @@ where
         let completions = CompletionQueue::new(self.alloc, None);
         let backend = self.backend(completions, share)?;
         let incoming = Incoming::new(arrival);
-        let thread = scope.spawn(move || self.attend(backend, incoming))?;
+        let thread = scope.spawn(move || self.serve(backend, incoming))?;
         drop(thread);
         Ok(())
     }

@@ -346,16 +346,16 @@ where
     G: Gate + Send + Sync + 'static,
 {
     /// Runs the event loop until no more connections come and all have ended.
-    fn attend(&self) {
+    fn run(&self) {
         let event_loop = self.event_loop.lock(&self.server.rt).take();
         if let Some(event_loop) = event_loop {
-            event_loop.attend(&self.server.rt, self);
+            event_loop.run(&self.server.rt, self);
         }
     }
 
     /// Begins the thread. Fails where there is no thread.
     fn begin<'e, E>(&'e self, scope: &Scope<'e, E>) -> Result<(), AllocError> {
-        let thread = scope.spawn(move || self.attend())?;
+        let thread = scope.spawn(move || self.run())?;
         drop(thread);
         Ok(())
     }

@@ -1,7 +1,7 @@
 use Rattle.mio.specs.Events.{items}
 use Rattle.craq_event_loop.specs.SubmittedCalls.{called_by}
 use Rattle.craq_event_loop.proofs.Reaching.{none_reachable, reported_reachable}
-use Rattle.craq_event_loop.proofs.event_loop.EventLoop.attend.Goals as goal
+use Rattle.craq_event_loop.proofs.event_loop.EventLoop.run.Goals as goal
 
 pub loop-init : goal.loop-init
 loop-init g c = (c.new-members.ensures.kept, none_reachable g.H.LoopBackend.is_new (g.H.Backend.tells c.args.backend.now) (g.H.Backend.refuses c.args.backend.now) (called_by (g.H.AsyncBackend.submits c.args.backend.now) (g.H.AsyncBackend.finishes c.args.backend.now)) (g.H.AsyncBackend.finishes c.args.backend.now) c.new-members.result c.new-members.ensures.none)

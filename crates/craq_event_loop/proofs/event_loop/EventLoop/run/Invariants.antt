@@ -1,7 +1,7 @@
 use Rattle.craq_event_loop.specs.SubmittedCalls.{called_by}
 use Rattle.craq_event_loop.specs.Busy.{NoneForgotten}
 use Rattle.craq_event_loop.specs.Reaching.{AreReachable}
-use Rattle.craq_event_loop.proofs.event_loop.EventLoop.attend.Given as goal
+use Rattle.craq_event_loop.proofs.event_loop.EventLoop.run.Given as goal
 
 abbrev pub invariant-loop : goal.invariant-loop
 invariant-loop g l =

@@ -1,5 +1,5 @@
 use Rattle.craq_server.proofs.Reached.{served_reachable}
-use Rattle.craq_server.proofs.accepting.Server.attend.Goals as goal
+use Rattle.craq_server.proofs.accepting.Server.serve.Goals as goal
 
 pub end_connection-calls-requires : goal.end_connection-calls-requires
 end_connection-calls-requires g c =

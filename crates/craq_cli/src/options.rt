@@ -85,7 +85,7 @@ impl NumberOption {
                 "Serve at most N connections at once; 0 serves as many as descriptors allow"
             }
             NumberOption::Idle => {
-                "End a connection that sends or takes nothing for so many seconds; 0 ends none"
+                "End a connection that sends or takes nothing for N seconds; 0 ends none"
             }
             NumberOption::MostLeap => {
                 "Refuse a pass more than N above the largest that was printed or sent; 0 takes any"

@@ -168,7 +168,8 @@ const CHECK_HELP: &str =
     "EXPLANATION is a file with an explanation as `explain` of a script prints it: an object of JSON with the
 members asks, lens and places. Printed is `true` where it holds of what the script does, and `false` where
 it does not: each committed update was asked, the list only grows, no request comes twice, and each strong
-answer is what a single copy answers after so many updates, at some moment from its ask to its answer.
+answer is what a single copy answers after as many updates as lens says, at some moment from its ask to
+its answer.
 
 Status: as of play; 2 where EXPLANATION is none, with the place: `not UTF-8 at byte B`, `not JSON at line L
 column C`, `no array: MEMBER`, or `bad item: MEMBER[I]`, with I counted from 0.

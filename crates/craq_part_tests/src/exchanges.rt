@@ -80,7 +80,7 @@ where
 pub(crate) fn run<R: AllocGlobal + Print>(rt: &R) -> io::Result<()> {
     print_ask(rt, "a reply", &WRITTEN, 0, 100)?;
     print_ask(rt, "a refusal", &BAD_FRAME, 0, 100)?;
-    print_ask(rt, "a message in the place of a reply", &PUT, 0, 100)?;
+    print_ask(rt, "a message instead of a reply", &PUT, 0, 100)?;
     print_ask(rt, "a long reply", &TOO_LONG, 0, 100)?;
     print_ask(rt, "a failing read", &WRITTEN, 2, 100)?;
     print_ask(rt, "a failing write", &WRITTEN, 0, 10)?;

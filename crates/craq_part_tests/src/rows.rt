@@ -102,5 +102,5 @@ pub(crate) fn run<R: AllocGlobal + Print>(rt: &R) -> io::Result<()> {
         &PUT,
     )?;
     print_both(rt, "no message and nine", &NO_MESSAGE, &NINE_MESSAGES)?;
-    print_row(rt, "a reply in the place of a message", &WRITTEN)
+    print_row(rt, "a reply instead of a message", &WRITTEN)
 }

@@ -58,7 +58,7 @@ impl Fact {
             Fact::WaitsOnce => "of what is said again and again one waits",
             Fact::IsReady => "the node that joined answers a strong read",
             Fact::IsAnswered => "every call is answered",
-            Fact::IsInTime => "every call is answered within so many ticks",
+            Fact::IsInTime => "every call is answered within the ticks that it is given",
             Fact::HasItsVersion => "each answer has the version that it should",
             Fact::LeavesNone => "no thread is left of a closed store",
         }

@@ -8,7 +8,7 @@ from tools import repository
 from tools.pages.diagrams import is_in, sources_of
 
 PAGE = "docs/develop/ARCHITECTURE.md"
-# What a put may pass from socket to socket.
+# The most that a put may pass from socket to socket.
 MOST_FILES, MOST_CRATES, MOST_CHANGES = 24, 11, 40
 # Functions, and the crate in brackets behind them.
 NAMED = re.compile(r"((?:`[\w:]+`, )*`[\w:]+`) \(`(craq_\w+)`\)")

@@ -63,7 +63,7 @@ fn keep_limits(event: &Event)
 
 /// Applies a planned change, unless its sends do not fit into messages (`Exhausted`).
 #[tactic(auto, using(crate::proofs::Stops::nothing_fits, crate::proofs::Remembered::made_given))]
-fn commit_change<H: History>(
+fn apply_change<H: History>(
     alloc: Global,
     node: &mut Node<H>,
     change: Change,
@@ -94,7 +94,7 @@ fn take_update<H: History>(
     ensures name { (plain_of H.past node.new).name ≡ (plain_of H.past node.old).name }
 {
     match compute_update(alloc, node, update) {
-        Ok((change, step)) => commit_change(alloc, node, change, step),
+        Ok((change, step)) => apply_change(alloc, node, change, step),
         Err(refusal) => Err(refusal),
     }
 }
@@ -112,13 +112,13 @@ fn take_read<H: History>(
     ensures name { (plain_of H.past node.new).name ≡ (plain_of H.past node.old).name }
 {
     match compute_read(alloc, node, mode, key) {
-        Ok((change, step)) => commit_change(alloc, node, change, step),
+        Ok((change, step)) => apply_change(alloc, node, change, step),
         Err(refusal) => Err(refusal),
     }
 }
 
 /// Handles an admitted request. The remaining errors are those of the update or of the read.
-fn compute_ask<H: History>(alloc: Global, node: &mut Node<H>, ask: Ask) -> Result<Step, Refusal>
+fn take_request<H: History>(alloc: Global, node: &mut Node<H>, ask: Ask) -> Result<Step, Refusal>
     requires admitted { IsAdmittedAsk (plain_of H.past node.old) ask }
     requires sound { IsSound (plain_of H.past node.old) }
     requires spelled { IsEncodableAsk ask }
@@ -144,7 +144,7 @@ fn take_membership<H: History>(
     ensures free { IsSome (config_transition (plain_of H.past node.old) epoch members).1.ignored → IsOk result }
 {
     match compute_config(alloc, node, epoch, members) {
-        Ok((change, step)) => commit_change(alloc, node, change, step),
+        Ok((change, step)) => apply_change(alloc, node, change, step),
         Err(_) => Err(Refusal::Memory),
     }
 }
@@ -164,7 +164,7 @@ fn take_entry<H: History>(
     ensures free { IsSome (entries_transition (plain_of H.past node.old) sender (entry ∷ [])).1.ignored → IsOk result }
 {
     match compute_entry(alloc, node, sender, entry) {
-        Ok((change, step)) => commit_change(alloc, node, change, step),
+        Ok((change, step)) => apply_change(alloc, node, change, step),
         Err(_) => Err(Refusal::Memory),
     }
 }
@@ -185,7 +185,7 @@ fn take_entries<H: History>(
     ensures free { IsSome (entries_transition (plain_of H.past node.old) sender entries).1.ignored → IsOk result }
 {
     match compute_entries(alloc, node, sender, entries) {
-        Ok((change, step)) => commit_change(alloc, node, change, step),
+        Ok((change, step)) => apply_change(alloc, node, change, step),
         Err(_) => Err(Refusal::Memory),
     }
 }
@@ -203,7 +203,7 @@ fn take_ack<H: History>(
     ensures free { IsSome (ack_transition (plain_of H.past node.old) sender position).1.ignored → IsOk result }
 {
     match compute_ack(alloc, node, sender, position) {
-        Ok((change, step)) => commit_change(alloc, node, change, step),
+        Ok((change, step)) => apply_change(alloc, node, change, step),
         Err(_) => Err(Refusal::Memory),
     }
 }
@@ -222,7 +222,7 @@ fn take_query<H: History>(
     ensures free { IsSome (query_transition (plain_of H.past node.old) sender ticket key.now).1.ignored → IsOk result }
 {
     match compute_query(alloc, node, sender, ticket, key) {
-        Ok((change, step)) => commit_change(alloc, node, change, step),
+        Ok((change, step)) => apply_change(alloc, node, change, step),
         Err(_) => Err(Refusal::Memory),
     }
 }
@@ -241,7 +241,7 @@ fn take_version<H: History>(
     ensures free { IsSome (version_transition (plain_of H.past node.old) sender ticket version).1.ignored → IsOk result }
 {
     match compute_version(alloc, node, sender, ticket, version) {
-        Ok((change, step)) => commit_change(alloc, node, change, step),
+        Ok((change, step)) => apply_change(alloc, node, change, step),
         Err(_) => Err(Refusal::Memory),
     }
 }
@@ -261,7 +261,7 @@ fn take_copy<H: History>(
     ensures free { IsSome (copy_transition (plain_of H.past node.old) sender position state).1.ignored → IsOk result }
 {
     match compute_copy(alloc, node, sender, position, state) {
-        Ok((change, step)) => commit_change(alloc, node, change, step),
+        Ok((change, step)) => apply_change(alloc, node, change, step),
         Err(_) => Err(Refusal::Memory),
     }
 }
@@ -282,7 +282,7 @@ fn take_part<H: History>(
     ensures free { IsSome (part_transition (plain_of H.past node.old) sender part).1.ignored → IsOk result }
 {
     match compute_part(alloc, node, sender, part) {
-        Ok((change, step)) => commit_change(alloc, node, change, step),
+        Ok((change, step)) => apply_change(alloc, node, change, step),
         Err(_) => Err(Refusal::Memory),
     }
 }
@@ -301,7 +301,7 @@ fn take_floor<H: History>(
     ensures free { IsSome (floor_transition (plain_of H.past node.old) sender count).1.ignored → IsOk result }
 {
     match compute_floor(alloc, node, sender, count) {
-        Ok((change, step)) => commit_change(alloc, node, change, step),
+        Ok((change, step)) => apply_change(alloc, node, change, step),
         Err(_) => Err(Refusal::Memory),
     }
 }
@@ -321,7 +321,7 @@ fn take_blank<H: History>(
     ensures free { IsSome (blank_transition (plain_of H.past node.old) sender count).1.ignored → IsOk result }
 {
     match compute_blank(alloc, node, sender, count) {
-        Ok((change, step)) => commit_change(alloc, node, change, step),
+        Ok((change, step)) => apply_change(alloc, node, change, step),
         Err(refusal) => Err(refusal),
     }
 }
@@ -390,7 +390,7 @@ fn tick<H: History>(alloc: Global, node: &mut Node<H>) -> Result<Step, Refusal>
 {
     let mut outs = Vec::new(alloc);
     add_tick_outs(&mut outs, alloc, node)?;
-    commit_change(alloc, node, Change::none(), done(outs))
+    apply_change(alloc, node, Change::none(), done(outs))
 }
 
 /// Dispatches an admitted event, other than a stop, at a running node: its rule plans the change,
@@ -406,7 +406,7 @@ fn dispatch<H: History>(alloc: Global, node: &mut Node<H>, event: Event) -> Resu
     ensures free { IsFree (plain_of H.past node.old) event → IsOk result }
 {
     match event {
-        Event::Ask(ask) => compute_ask(alloc, node, ask),
+        Event::Ask(ask) => take_request(alloc, node, ask),
         Event::Deliver(message) => deliver(alloc, node, message),
         Event::Tick => tick(alloc, node),
         Event::Stop => Ok(done(Vec::new(alloc))),

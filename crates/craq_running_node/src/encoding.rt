@@ -50,8 +50,8 @@ fn kind_said(body: &Body) -> Kind
     }
 }
 
-/// Returns the position of the entry that a step sends, if the step does nothing else. Takes no
-/// memory.
+/// Returns the position of the entry that a step sends, if the step sends nothing else and answers
+/// nobody. Takes no memory.
 pub fn lone_entry(step: &Step) -> Option<Seq>
     ensures some { IfSome result (λ position. OnlySends kinds.Entry step.now.outs × (position ≡ lone_position step.now.outs)) }
     ensures none { IsNone result → ¬ (OnlySends kinds.Entry step.now.outs) }
@@ -170,7 +170,7 @@ pub(crate) fn encode_bringing(
     Ok(sent)
 }
 
-/// The acknowledgement of a step that does nothing else, under the step's receipt. A contract sees
+/// The acknowledgement of a step that has no other output, under the step's receipt. A contract sees
 /// the message. It has no drop: its holder encodes it, or lets it give way to one that makes it
 /// needless.
 pub struct LoneAck {
@@ -227,7 +227,7 @@ fn ack_in(out: &Out, receipt: Receipt) -> Option<LoneAck>
 }
 
 impl LoneAck {
-    /// Returns the acknowledgement of a step that does nothing else, under this receipt, and `None`
+    /// Returns the acknowledgement of a step that has no other output, under this receipt, and `None`
     /// for any other step. Takes no memory.
     pub fn of(step: &Step, receipt: Receipt) -> Option<Self>
         requires { CanBeSent receipt step.now.outs }

@@ -1,7 +1,9 @@
-//! The messages of a step on their way to other nodes: `Wire`, `Messages` and `OwedAck` hold bytes
-//! with a token that has seen the step. Encodes what the last step of a node, or of a master, sends:
-//! all messages, those alone that bring entries, or the one that can wait. For the batches of
-//! `craq_running_chain`, under the node's lock, and for `craq_locked_chain`.
+//! The messages of a step on their way to other nodes. `Wire`, `Messages` and `OwedAck` hold bytes
+//! with a token that has seen the step.
+//!
+//! Encodes what the last step of a node, or of a master, sends: all messages, those alone that bring
+//! entries, or the one that can wait. The batches of `craq_running_chain` call this under the node's
+//! lock; `craq_locked_chain` calls it for the master.
 ghost use Rattle.std.specs.Prelude.{◌≡◌, IfOk, ◌==◌, ◌∷◌, [], length, IfSome, IsNone, None, ◌⊎◌};
 ghost use Rattle.craq_causality.specs.Causal.{WasSent};
 ghost use Rattle.craq_store_history.specs.Entries.{lines_in};
@@ -169,7 +171,7 @@ impl<N: Named> Messages<N> {
     }
 }
 
-/// The acknowledgement of a step that does nothing else, which was sent in the token's history. It
+/// The acknowledgement of a step that has no other output, sent in the token's history. It
 /// has no drop: its holder encodes it, or lets it give way. A contract sees the message.
 pub struct OwedAck<N: Named> {
     chain: ChainId,
@@ -342,7 +344,7 @@ pub fn messages_of<C: Core + Named>(
     Messages::new(chain, sent, seated.desk.token(history))
 }
 
-/// Returns the acknowledgement of a node's last step, if the step does nothing else.
+/// Returns the acknowledgement of a node's last step, if the step has no other output.
 pub fn owed_by<C: Core + Named>(
     history: &StoreHistory<C>,
     seated: &mut SeatedNode<C>,
@@ -359,7 +361,7 @@ pub fn owed_by<C: Core + Named>(
     }
 }
 
-/// Returns the acknowledgement of a cell's last step, if the step does nothing else.
+/// Returns the acknowledgement of a cell's last step, if the step has no other output.
 fn lone_ack_of<C: Core>(cell: &Cell<C>) -> Option<LoneAck>
     ensures only { IfSome result (λ ack. IfSome cell.now.last (λ s. OnlySends kinds.Ack s.outs × (numbered_from 0 (receipt_of cell.now) (sent_in s.outs) ≡ ack ∷ []))) }
     ensures other { IsNone result → IfSome cell.now.last (λ s. ¬ (OnlySends kinds.Ack s.outs)) }
@@ -368,7 +370,7 @@ fn lone_ack_of<C: Core>(cell: &Cell<C>) -> Option<LoneAck>
     LoneAck::of(cell.last()?, last_receipt(cell))
 }
 
-/// Returns the position of the entry that a node's last step sends, if the step does nothing else.
+/// Returns the position of the entry that a node's last step sends, if the step has no other output.
 pub fn lone_entry_of<C: Core>(cell: &Cell<C>) -> Option<Seq>
     ensures some { IfSome result (λ position. IfSome cell.now.last (λ s. OnlySends kinds.Entry s.outs × (position ≡ lone_position s.outs))) }
     ensures none { IsNone result → IfSome cell.now.last (λ s. ¬ (OnlySends kinds.Entry s.outs)) }

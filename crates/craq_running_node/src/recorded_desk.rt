@@ -148,9 +148,11 @@ impl<C: Core + Named> RecordedDesk<C> {
         self.desk.cell()
     }
 
-    /// Takes one step of the desk, exactly as `Desk::take` does, and adds it to the history, after
-    /// all that the origin of its cause has seen. A step that accepts a call uses the call's permit
-    /// up. On a refusal nothing is changed and nothing added. The call is given back then, with the
+    /// Takes one step of the desk, exactly as `Desk::take` does, and adds it to the history. It comes
+    /// after all that the origin of its cause has seen. A step that accepts a call uses the call's
+    /// permit up.
+    ///
+    /// On a refusal nothing is changed and nothing added. The call is given back then, with the
     /// moment of the history at which the node refuses it with the cause's pass.
     pub fn take(
         &mut self,

@@ -1,5 +1,5 @@
-//! Steps of a node whose seat is locked: of a request or another event; and `Replies`, the replies of
-//! these steps, kept until the lock is free. The batches of `craq_running_chain` call them, under the
+//! Steps of a node whose seat is locked, on a request or another event. `Replies` keeps the replies
+//! of these steps until the lock is free. The batches of `craq_running_chain` call them, under the
 //! lock.
 ghost use Rattle.std.specs.Prelude.{◌≡◌, ◌∷◌, [], None, Some, Err, IfErr, IfOk, IfSome, IsTrue, OnErr, Result, Vec, false, ◌++◌};
 ghost use Rattle.std.specs.Option.{option_copied};
@@ -308,8 +308,8 @@ fn settle<R: Wait, N: Named>(
     }
 }
 
-/// Takes the step of the caller's own request. Returns the reply in hand; the refusal outside is of
-/// a request whose step was not taken.
+/// Takes the step of the caller's own request. The outer error says that the step was not taken. The
+/// inner result is the outcome of the call, or `None` if a completion will come.
 pub fn take_own_ask<R: Wait, C: Core + Named>(
     rt: &R,
     history: &StoreHistory<C>,

@@ -469,9 +469,9 @@ fn serve_accepted(
     }
 }
 
-/// Answers the calls of a step: the accepted request waits from now on, and each waiting call that
-/// the step answers gets its receipt and waits no more. When out of memory, the calls that the step
-/// accepts or answers are dropped.
+/// Answers the calls of a step. Each waiting call that the step answers gets its receipt and waits
+/// no more. The accepted request waits from now on, unless answering it is the step's only output.
+/// When out of memory, the calls that the step accepts or answers are dropped.
 pub(crate) fn serve_calls(
     alloc: Global,
     waiting: &mut TicketQueue<Call>,

@@ -130,10 +130,13 @@ impl<C: Core> Cell<C> {
     /// node's own, for each plain node that the core stands for. `last` then lends it, and the
     /// journal has exactly that step in addition. A delivered message must have an encoding.
     ///
-    /// Refused, with nothing changed, for the first of these that applies: `Exhausted` if that
-    /// largest stamp is 2^64 - 1; `Memory` if a journal is kept and has no room for the step; each
-    /// refusal of the node's own step (`Core::step`), its `Memory` last. Without a journal, a stop
-    /// of a running node and an ignored message never allocate.
+    /// The errors, in order; after each nothing is changed:
+    ///
+    /// - `Exhausted` if that largest stamp is 2^64 - 1.
+    /// - `Memory` if a journal is kept and has no room for the step.
+    /// - Each refusal of the node's own step (`Core::step`), its `Memory` last.
+    ///
+    /// Without a journal, a stop of a running node and an ignored message never allocate.
     pub fn take(&mut self, alloc: Global, mut event: Event, pass: Pass) -> Result<Receipt, Refusal>
         requires { CanArrive event }
         ensures step { (p : Plain) → C.represents self.old.inside p → TakesEvent C.represents self.new (with_inside self.old p) event pass result }

@@ -1,7 +1,7 @@
 use Rattle.craq_model.specs.declared.ask.Ask.TheVariants as asks
 use Rattle.craq_history.specs.Nodes.{plain_of}
 use Rattle.craq_node.proofs.Kept.{ask_leads}
-use Rattle.craq_node.proofs.node_core.compute_ask.Goals as goal
+use Rattle.craq_node.proofs.node_core.take_request.Goals as goal
 
 pub take_update-requires-clause-sound : goal.take_update-requires-clause-sound
 take_update-requires-clause-sound g c =

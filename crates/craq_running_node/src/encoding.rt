@@ -39,7 +39,7 @@ pub struct Sent {
 }
 
 /// Returns the class of a message.
-fn kind_said(body: &Body) -> Kind
+fn kind_of(body: &Body) -> Kind
     ensures { result ≡ link_class body.now }
 {
     match body {
@@ -100,7 +100,7 @@ fn encode_one(
 {
     Ok(Sent {
         to: message.receiver,
-        kind: kind_said(&message.body),
+        kind: kind_of(&message.body),
         bytes: encode_as(alloc, message, receipt.node, receipt.stamp, index)?,
     })
 }

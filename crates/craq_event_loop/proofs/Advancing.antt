@@ -9,7 +9,7 @@ use Rattle.craq_event_loop.specs.SubmittedCalls.{Calling, Finishing, IsAsked, Is
 use Rattle.craq_event_loop.specs.ConnectionStates.{AnswersCall, Took}
 use Rattle.craq_event_loop.specs.Halves.{IsRefusable}
 use Rattle.craq_event_loop.specs.Turns.{Refusing}
-use Rattle.craq_event_loop.specs.declared.submitting.UnsentCall.{UnsentCall}
+use Rattle.craq_event_loop.specs.declared.connection_state.UnsentCall.{UnsentCall}
 use Rattle.craq_frames.specs.declared.protocol_codec.ProtocolCodec.{ProtocolCodec}
 use Rattle.craq_event_loop.specs.declared.door_calls.DoorCalls.{DoorCalls}
 use Rattle.craq_event_loop.specs.declared.connection_state.ConnectionState.{ConnectionState}

@@ -8,7 +8,7 @@ use Rattle.craq_event_loop.specs.SubmittedCalls.{Calling, MayHaveAny}
 use Rattle.craq_event_loop.specs.ConnectionStates.{Took}
 use Rattle.craq_event_loop.specs.Halves.{IsRefusable}
 use Rattle.craq_event_loop.specs.Turns.{Refusing}
-use Rattle.craq_event_loop.specs.declared.submitting.UnsentCall.{UnsentCall}
+use Rattle.craq_event_loop.specs.declared.connection_state.UnsentCall.{UnsentCall}
 use Rattle.craq_event_loop.specs.declared.connection_state.ConnectionState.{ConnectionState}
 use Rattle.craq_event_loop.specs.declared.connection_state.Phase.{Phase}
 use Rattle.craq_event_loop.specs.declared.connection_state.Phase.TheVariants as phases

@@ -6,9 +6,8 @@ ghost use Rattle.craq_event_loop.specs.declared.connection_state.CallRequest.{Ca
 ghost use Rattle.craq_event_loop.specs.Starved.{IsStarved};
 
 use crate::backend::{LoopBackend, NewConnection};
-use crate::connection_state::Stepped;
+use crate::connection_state::{Stepped, UnsentCall};
 use crate::socket::{Moved, Socket};
-use crate::submitting::UnsentCall;
 use crate::traffic::ClientStream;
 use crate::{AsyncBackend, BlockingBackend, ConnectionState, ReceiptPolicy};
 use craq_seat::{CallToken, Outcome, Reach};
@@ -478,8 +477,8 @@ impl<S: Socket, T> Connection<S, T> {
         self.take_reply(alloc, backend, call, reply);
     }
 
-    /// Asks the call that a step made, under the key of its origin and the number after that of the
-    /// call before it. An outcome at once goes to its state.
+    /// Makes the call of a step, under its connection's key and the number after that of the last
+    /// call. An outcome at once goes to its state.
     #[tactic(auto, using(crate::proofs::Advancing::nothing_came, crate::proofs::Advancing::came_at_once))]
     fn submit<H: AsyncBackend<Session = T>>(
         &mut self,

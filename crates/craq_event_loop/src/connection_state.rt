@@ -1,20 +1,22 @@
 //! `ConnectionState`: the state of one connection whose calls are answered later; for an event loop,
-//! or for a thread of its own. Before it, for `phases`, the two halves of a request: the call that
-//! it asks for, and its reply once the call has its outcome.
-ghost use Rattle.std.specs.Prelude.{◌≡◌, ◌↔◌, Err, IfErr, IfOk, None, OnErr};
+//! or for a thread of its own.
+//!
+//! Above it stand the two halves of a request: the call that it asks for, and its reply once the call
+//! has its outcome. Then the right to submit a call, which a step makes, and the next state of a
+//! connection after a step or an outcome.
+ghost use Rattle.std.specs.Prelude.{◌≡◌, ◌↔◌, Err, IfErr, IfOk, None, OnErr, IfSome};
 ghost use Rattle.craq_frames.specs.Payload.{NamesNode};
 ghost use Rattle.craq_event_loop.specs.declared.connection_state.Phase.TheVariants.{Idle};
-ghost use Rattle.craq_event_loop.specs.ConnectionStates.{KeepsRoom};
+ghost use Rattle.craq_event_loop.specs.ConnectionStates.{KeepsRoom, AnswersCall, Continues, Found, HasNoMore, HasOneMore, Took};
 ghost use Rattle.craq_frames.specs.Allowed.{IsAllowed};
 ghost use Rattle.craq_event_loop.specs.Halves.{Asks, BeginsTurn, EndsTurn, HasOwnReceipt, HasRoom, IsClosed, IsStatusReply, MakesRoom, RefusesCall, asked_by};
-ghost use Rattle.craq_event_loop.specs.SubmittedCalls.{IsReportable};
+ghost use Rattle.craq_event_loop.specs.SubmittedCalls.{IsReportable, IsRefusedAtOnce, IsSubmitted};
 ghost use Rattle.craq_event_loop.specs.Turns.{IsCalled, kept, name_of};
+ghost use Rattle.craq_frames.specs.declared.ask.ClientMessage.{ClientMessage};
 
 use crate::door_calls::DoorCalls;
-use crate::phases::{answered, next_step};
-use crate::submitting::{UnsentCall, submit_call};
 use crate::{AsyncBackend, Backend, ReceiptPolicy};
-use craq_frames::{ClientMessage, ClientReply, ProtocolCodec, is_allowed};
+use craq_frames::{ClientMessage, ClientReply, CodecEvent, ProtocolCodec, is_allowed};
 use craq_model::Ask;
 use craq_names::{NodeId, NodeName, Pass, Refusal};
 use craq_seat::{CallReceipt, CallToken, Outcome, Reach, answer_of_call};
@@ -94,15 +96,11 @@ fn status_reply<C: Backend>(backend: &C) -> ClientReply
     }
 }
 
-/// Begins a request. A status is answered at once. For a call, room for its receipt is made, and is
-/// there when the call has its outcome; without it the reply is `Refused(Memory)`, and the call is
-/// not made.
+/// Begins a request. A status is answered at once. For a call it makes room for the receipt, which
+/// is there when the call has its outcome. Without room the reply is `Refused(Memory)`, and the call
+/// is not made.
 #[tactic(auto, using(crate::proofs::Halves::status_answered, crate::proofs::Halves::memory_answered, crate::proofs::Reportable::memory_allowed))]
-pub(crate) fn begin_turn<C: Backend>(
-    backend: &C,
-    calls: &mut DoorCalls,
-    message: ClientMessage,
-) -> Begun
+fn begin_turn<C: Backend>(backend: &C, calls: &mut DoorCalls, message: ClientMessage) -> Begun
     ensures begun { BeginsTurn (C.tells backend.now) calls.old.policy calls.old.receipts.items message result calls.new.receipts.items }
     ensures policy { calls.new.policy ≡ calls.old.policy }
     ensures receipts { calls.new.receipts.items ≡ kept calls.old.policy calls.old.receipts.items }
@@ -156,12 +154,13 @@ fn reply_of_call(
 }
 
 /// Ends the request that asked for this call, with the room that `begin_turn` made. Returns the
-/// reply to the call, or its refusal; no other refusal replaces either. Of a call that was answered
-/// the reply is `Refused(Closed)` exactly where the receipt is that of another call, and
-/// `Refused(Memory)` only where there was no memory for a copy of the answer. The receipts are
-/// unchanged after a refusal.
+/// reply to the call, or its refusal; no other refusal replaces either. The receipts are unchanged
+/// after a refusal. Of a call that was answered the reply is:
+///
+/// - `Refused(Closed)` exactly where the receipt is that of another call.
+/// - `Refused(Memory)` only where there was no memory for a copy of the answer.
 #[tactic(auto, using(crate::proofs::Reportable::refusal_allowed))]
-pub(crate) fn end_turn(
+fn end_turn(
     alloc: Global,
     calls: &mut DoorCalls,
     request: &CallRequest,
@@ -208,6 +207,43 @@ fn put(place: &mut Phase, phase: Phase)
     drop(mem::replace(place, phase));
 }
 
+/// A call that a step made (`Stepped::Calls`). Only a step makes one, and only
+/// `ConnectionState::ask` takes one. It is neither `Copy` nor `Drop`, so each call that a step made
+/// is asked exactly once.
+#[derive(Debug)]
+pub struct UnsentCall {
+    _made: (),
+}
+
+impl UnsentCall {
+    /// Makes the mark of a call that a step made.
+    fn new() -> Self {
+        UnsentCall { _made: () }
+    }
+
+    /// Turns the mark into the right to submit the call under this token.
+    fn make(self, token: CallToken, reach: Reach) -> SubmitToken
+        ensures { result.token ≡ token }
+    {
+        let UnsentCall { _made: () } = self;
+        SubmitToken {
+            token,
+            reach,
+            _made: (),
+        }
+    }
+}
+
+/// The right to submit a call, with the token of its completion. Only `ConnectionState::ask` makes
+/// one, of an `UnsentCall`. It is not `Copy`, and the backend takes it. So no call is submitted
+/// twice, and none that was not made, as long as the backend submits nothing without one.
+#[derive(Debug, Drop)]
+pub struct SubmitToken {
+    pub token: CallToken,
+    pub reach: Reach,
+    _made: (),
+}
+
 /// The outcome of a step.
 #[derive(Debug)]
 pub enum Stepped {
@@ -220,6 +256,137 @@ pub enum Stepped {
     /// Nothing can be done before unsent bytes are written or a call has its outcome; or ever
     /// again.
     Stays,
+}
+
+/// Returns the state after the reply to the request that is under way.
+fn next_phase(codec: &mut ProtocolCodec, reply: ClientReply) -> Phase
+    requires { IsAllowed reply }
+    ensures more { (m : ClientMessage) → HasOneMore (Phase.Asks m) codec.old result codec.new m reply }
+    ensures idle { result ≡ Phase.Idle → codec.new.asking ≡ None }
+    ensures continues { Continues result codec.old codec.new }
+{
+    match codec.reply(reply) {
+        Ok(Some(message)) => Phase::Asks(message),
+        Ok(None) => Phase::Idle,
+        Err(_) => Phase::Over(Ending::Memory),
+    }
+}
+
+/// Looks for the next frame. Returns the state after that, and the outcome.
+fn find<C: Backend>(alloc: Global, backend: &C, codec: &mut ProtocolCodec) -> (Phase, Stepped)
+    requires { codec.old.asking ≡ None }
+    ensures more { HasNoMore Phase.Idle codec.old result.0 codec.new }
+    ensures found { Found result.0 result.1 codec.old codec.new }
+    ensures idle { result.0 ≡ Phase.Idle → codec.new.asking ≡ None }
+{
+    if codec.is_full() {
+        return (Phase::Idle, Stepped::Stays);
+    }
+    match codec.next(alloc) {
+        Ok(CodecEvent::Ask(message)) => (Phase::Asks(message), Stepped::Goes),
+        Ok(CodecEvent::Refused) => {
+            backend.unasked(&Refusal::BadFrame);
+            (Phase::Idle, Stepped::Goes)
+        }
+        Ok(CodecEvent::Nothing) => (Phase::Idle, Stepped::Starved),
+        Err(refusal) => match refusal {
+            Refusal::FrameTooLong => {
+                backend.unasked(&refusal);
+                (Phase::Over(Ending::TooLong), Stepped::Stays)
+            }
+            _ => (Phase::Over(Ending::Memory), Stepped::Stays),
+        },
+    }
+}
+
+/// Begins a request. Returns the state after that, and the outcome.
+fn begin<C: Backend>(
+    backend: &C,
+    codec: &mut ProtocolCodec,
+    calls: &mut DoorCalls,
+    message: ClientMessage,
+) -> (Phase, Stepped)
+    ensures took { Took (C.tells backend.now) (Phase.Asks message) result.1 result.0 codec.old codec.new calls.old calls.new }
+    ensures policy { calls.new.policy ≡ calls.old.policy }
+    ensures idle { result.0 ≡ Phase.Idle → codec.new.asking ≡ None }
+    ensures room { KeepsRoom result.0 calls.new }
+{
+    match begin_turn(backend, calls, message) {
+        Begun::Reported(reply) => (next_phase(codec, reply), Stepped::Goes),
+        Begun::Calls(request) => (Phase::Waits(request), Stepped::Calls(UnsentCall::new())),
+    }
+}
+
+/// Takes a step. Returns the state after it, and the outcome.
+fn next_step<C: Backend>(
+    alloc: Global,
+    backend: &C,
+    codec: &mut ProtocolCodec,
+    calls: &mut DoorCalls,
+    phase: Phase,
+) -> (Phase, Stepped)
+    requires idle { phase ≡ Phase.Idle → codec.old.asking ≡ None }
+    requires room { KeepsRoom phase calls.old }
+    ensures took { Took (C.tells backend.now) phase result.1 result.0 codec.old codec.new calls.old calls.new }
+    ensures policy { calls.new.policy ≡ calls.old.policy }
+    ensures idle { result.0 ≡ Phase.Idle → codec.new.asking ≡ None }
+    ensures room { KeepsRoom result.0 calls.new }
+{
+    match phase {
+        Phase::Idle => find(alloc, backend, codec),
+        Phase::Asks(message) => begin(backend, codec, calls, message),
+        Phase::Waits(request) => (Phase::Waits(request), Stepped::Stays),
+        Phase::Over(ending) => (Phase::Over(ending), Stepped::Stays),
+    }
+}
+
+/// Returns the state after the outcome of the call that is under way.
+fn answered(
+    alloc: Global,
+    codec: &mut ProtocolCodec,
+    calls: &mut DoorCalls,
+    phase: Phase,
+    outcome: Result<CallReceipt, Refusal>,
+) -> Phase
+    requires idle { phase ≡ Phase.Idle → codec.old.asking ≡ None }
+    requires room { KeepsRoom phase calls.old }
+    requires reportable { IsReportable outcome }
+    ensures answers { AnswersCall phase outcome result codec.old codec.new calls.old calls.new }
+    ensures policy { calls.new.policy ≡ calls.old.policy }
+    ensures idle { result ≡ Phase.Idle → codec.new.asking ≡ None }
+    ensures room { KeepsRoom result calls.new }
+{
+    match phase {
+        Phase::Waits(request) => {
+            let reply = end_turn(alloc, calls, &request, outcome);
+            drop(request);
+            next_phase(codec, reply)
+        }
+        other => {
+            drop(outcome);
+            other
+        }
+    }
+}
+
+/// Submits a call in the session. Returns its outcome if it comes at once; else `None`, and a
+/// completion will come.
+#[tactic(auto, using(crate::proofs::Reportable::reportable_finished))]
+fn submit_call<B: AsyncBackend>(
+    backend: &B,
+    session: &mut B::Session,
+    submit_token: SubmitToken,
+    request: &CallRequest,
+) -> Option<Outcome>
+    ensures submitted { IsSubmitted (B.submits backend.now submit_token.token) (B.finishes backend.now) request.now session.old result session.new }
+    ensures refused { IsRefusedAtOnce (B.refuses backend.now) request.now result }
+    ensures reportable { IfSome result (λ outcome. IsReportable outcome) }
+{
+    match backend.submit(session, submit_token, request) {
+        Ok(None) => None,
+        Ok(Some(reply)) => Some(backend.finish(session, request, reply)),
+        Err(refusal) => Some(Err(refusal)),
+    }
 }
 
 /// The state of one connection whose calls are answered later: bytes in, calls to make, their
@@ -399,9 +566,9 @@ impl<T> ConnectionState<T> {
         backend.finish(&mut self.session, request, reply)
     }
 
-    /// Takes the outcome of the call that is under way: appends its reply or refusal to the unsent
-    /// bytes, and keeps the receipt behind the others (`end_turn`). Out of memory for the bytes of
-    /// the reply it is over, and nothing is appended. Unchanged where no call is under way.
+    /// Takes the outcome of the call that is under way (`end_turn`). Appends its reply or refusal to
+    /// the unsent bytes, and keeps the receipt behind the others. Out of memory for the bytes of the
+    /// reply it is over, and nothing is appended. Unchanged where no call is under way.
     pub(crate) fn answer(&mut self, alloc: Global, outcome: Outcome)
         requires { IsReportable outcome }
         ensures answers { AnswersCall self.old.phase outcome self.new.phase self.old.codec self.new.codec self.old.calls self.new.calls }

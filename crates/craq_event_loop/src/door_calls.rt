@@ -1,4 +1,4 @@
-//! `DoorCalls`: the receipts of a connection's calls, and the reply to a call; for `phases` and
+//! `DoorCalls`: the receipts of a connection's calls, and the reply to a call; for
 //! `connection_state`.
 ghost use Rattle.std.specs.Prelude.{◌≡◌, ◌≤◌, [], ◌∷◌, ◌++◌, length, vec_capacity, OnOk, OnErr};
 ghost use Rattle.craq_frames.specs.Allowed.{IsAllowed};

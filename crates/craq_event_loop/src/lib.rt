@@ -16,16 +16,13 @@ mod door_calls;
 mod event_loop;
 mod laws;
 mod own_thread;
-mod phases;
 mod socket;
-mod submitting;
 mod traffic;
 
 pub use backend::{AsyncBackend, Backend, BlockingBackend, LoopBackend, NewConnection};
-pub use connection_state::{CallRequest, ConnectionState, Stepped};
+pub use connection_state::{CallRequest, ConnectionState, Stepped, SubmitToken, UnsentCall};
 pub use door_calls::ReceiptPolicy;
 pub use event_loop::{EventLoop, LoopSettings};
 pub use laws::each_call_has_its_number;
 pub use own_thread::serve_one;
-pub use submitting::{SubmitToken, UnsentCall};
 pub use traffic::{ClientStream, Traffic};

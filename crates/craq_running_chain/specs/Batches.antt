@@ -11,11 +11,11 @@ use Rattle.craq_seat.specs.Numbered.{numbered_from}
 use Rattle.craq_running_node.specs.declared.steps.SeatedNode.{SeatedNode}
 use Rattle.craq_running_node.specs.declared.encoding.Kind.TheVariants as kinds
 use Rattle.craq_running_node.specs.Encoded.{OnlySends, lone_position}
-use Rattle.craq_running_chain.specs.declared.unsent.Unsent.{Unsent}
+use Rattle.craq_running_chain.specs.declared.held_back.HeldBack.{HeldBack}
 use Rattle.craq_wire.specs.Encoding.{Encodes}
 use Rattle.craq_running_node.specs.declared.inbox.Delivery.{Delivery}
 use Rattle.craq_running_node.specs.declared.inbox.Delivery.TheVariants as brings
-use Rattle.craq_running_chain.specs.declared.unsent.Unsent.TheVariants as unsent
+use Rattle.craq_running_chain.specs.declared.held_back.HeldBack.TheVariants as held_back
 use Rattle.craq_running_node.specs.Replies.{PendingReplies, ReactsTo}
 
 -- a node reacts to the message that these bytes encode; out of memory, or if they encode none, it is as it was
@@ -39,18 +39,18 @@ abbrev pub OwesStill : {C : Type 0} → Celled C Event → Option LinkMessage �
 OwesStill cell old new = IfSome cell.last (λ (s : Step). sent_in s.outs ≡ [] → new ≡ old)
 
 -- the entries held back once one of this position is held back too
-abbrev pub with_entry : ℕ → Unsent → Unsent
-with_entry position unsent.Nothing = unsent.Last position
-with_entry position (unsent.Last first) = unsent.Several first
-with_entry position (unsent.Several first) = unsent.Several first
+abbrev pub with_entry : ℕ → HeldBack → HeldBack
+with_entry position held_back.Nothing = held_back.Last position
+with_entry position (held_back.Last first) = held_back.Several first
+with_entry position (held_back.Several first) = held_back.Several first
 
 -- the entries held back after a step that sends its messages itself: the last of them is no longer that of the last step
-abbrev pub after_another : Unsent → Unsent
-after_another unsent.Nothing = unsent.Nothing
-after_another (unsent.Last first) = unsent.Several first
-after_another (unsent.Several first) = unsent.Several first
+abbrev pub after_another : HeldBack → HeldBack
+after_another held_back.Nothing = held_back.Nothing
+after_another (held_back.Last first) = held_back.Several first
+after_another (held_back.Several first) = held_back.Several first
 
 -- the entry of a cell's last step is held back if the step only sends it; the entries held back before still are
-abbrev pub HoldsBack : {C : Type 0} → Celled C Event → Unsent → Unsent → Type 0
+abbrev pub HoldsBack : {C : Type 0} → Celled C Event → HeldBack → HeldBack → Type 0
 HoldsBack cell old new =
     IfSome cell.last (λ (s : Step). (OnlySends kinds.Entry s.outs → new ≡ with_entry (lone_position s.outs) old) × (¬ (OnlySends kinds.Entry s.outs) → new ≡ after_another old))

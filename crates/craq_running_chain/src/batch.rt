@@ -5,14 +5,14 @@ ghost use Rattle.std.specs.Sync.Mutex.{mutex_guard_value};
 ghost use Rattle.std.specs.Prelude.{◌≡◌, ◌⊎◌, ℕ, [], None, Some, false};
 ghost use Rattle.craq_locked_chain.specs.Held.{cell_in};
 ghost use Rattle.craq_node.specs.Represented.{CanArrive};
-ghost use Rattle.craq_running_chain.specs.declared.unsent.Unsent.TheVariants as unsent;
+ghost use Rattle.craq_running_chain.specs.declared.held_back.HeldBack.TheVariants as held_back;
 ghost use Rattle.craq_running_node.specs.Replies.{ClosesOwn, ClosesQueued, ReactsTo, RefusesOwn, RefusesQueued, TakesOwn, TakesQueued, in_hand};
 ghost use Rattle.craq_store_parts.specs.Recorded.{MayHappen};
 ghost use Rattle.craq_running_chain.specs.Batches.{TakesMessage, HoldsBack, OwesLast, OwesStill, TakesBrought};
 
 use crate::chain::Chain;
+use crate::held_back::HeldBack;
 use crate::shared::{Shared, Wakes};
-use crate::unsent::Unsent;
 use craq_ghost_history::Named;
 use craq_model::Event;
 use craq_names::{ChainId, Refusal, Seq};
@@ -78,7 +78,7 @@ pub(crate) struct NodeBatch<'a, C: Core + Named, G: Gate> {
     seated: MutexGuard<'a, SeatedNode<C>>,
     replies: Replies<C>,
     owed: Option<OwedAck<C>>,
-    unsent: Unsent,
+    held_back: HeldBack,
 }
 
 impl<'a, C: Core + Named, G: Gate> NodeBatch<'a, C, G> {
@@ -93,7 +93,7 @@ impl<'a, C: Core + Named, G: Gate> NodeBatch<'a, C, G> {
         ensures seated { result.seated ≡ seated.entry }
         ensures replies { result.replies ≡ record { replies = []; short = false } }
         ensures owed { result.owed ≡ None }
-        ensures unsent { result.unsent ≡ unsent.Nothing }
+        ensures held_back { result.held_back ≡ held_back.Nothing }
     {
         let alloc = shared.alloc;
         NodeBatch {
@@ -106,7 +106,7 @@ impl<'a, C: Core + Named, G: Gate> NodeBatch<'a, C, G> {
             seated,
             replies: Replies::new(alloc),
             owed: None,
-            unsent: Unsent::Nothing,
+            held_back: HeldBack::Nothing,
         }
     }
 
@@ -120,14 +120,14 @@ impl<'a, C: Core + Named, G: Gate> NodeBatch<'a, C, G> {
 
     /// Sends what is owed, unlocks the node, and then sends the replies to callers.
     fn let_go<R: Wait>(self, rt: &R)
-        requires { self.unsent ≡ unsent.Nothing }
+        requires { self.held_back ≡ held_back.Nothing }
     {
         let NodeBatch {
             exit,
             seated,
             replies,
             owed,
-            unsent: _,
+            held_back: _,
         } = self;
         if let Some(ack) = owed {
             exit.acknowledge(rt, ack);
@@ -142,15 +142,15 @@ impl<'a, C: Core + Named, G: Gate> NodeBatch<'a, C, G> {
     /// Of the tick's messages only those go out that bring entries which were held back. Out of
     /// memory, the next tick sends them, as it does after a lost message.
     fn flush<R: Wait>(&mut self, rt: &R)
-        ensures unsent { self.new.unsent ≡ unsent.Nothing }
-        ensures several { (first : ℕ) → self.old.unsent ≡ unsent.Several first → ReactsTo C.represents (mutex_guard_value self.old.seated) (mutex_guard_value self.new.seated) Event.Tick self.old.replies self.new.replies }
-        ensures same { ((first : ℕ) → ¬ (self.old.unsent ≡ unsent.Several first)) → (self.new.seated ≡ self.old.seated) × (self.new.replies ≡ self.old.replies) }
+        ensures held_back { self.new.held_back ≡ held_back.Nothing }
+        ensures several { (first : ℕ) → self.old.held_back ≡ held_back.Several first → ReactsTo C.represents (mutex_guard_value self.old.seated) (mutex_guard_value self.new.seated) Event.Tick self.old.replies self.new.replies }
+        ensures same { ((first : ℕ) → ¬ (self.old.held_back ≡ held_back.Several first)) → (self.new.seated ≡ self.old.seated) × (self.new.replies ≡ self.old.replies) }
     {
-        let unsent = mem::replace(&mut self.unsent, Unsent::Nothing);
-        match unsent {
-            Unsent::Nothing => (),
-            Unsent::Last(_) => self.send_step(rt),
-            Unsent::Several(first) => {
+        let held_back = mem::replace(&mut self.held_back, HeldBack::Nothing);
+        match held_back {
+            HeldBack::Nothing => (),
+            HeldBack::Last(_) => self.send_step(rt),
+            HeldBack::Several(first) => {
                 if self.tick(rt) {
                     self.send_entries(rt, first);
                 }
@@ -205,11 +205,12 @@ impl<'a, C: Core + Named, G: Gate> NodeBatch<'a, C, G> {
         }
     }
 
-    /// Takes the step on a tick. Returns whether it was taken.
+    /// Takes the step on a tick, which sends again each entry that is not acknowledged. Returns
+    /// whether it was taken.
     fn tick<R: Wait>(&mut self, rt: &R) -> bool
         ensures reacts { ReactsTo C.represents (mutex_guard_value self.old.seated) (mutex_guard_value self.new.seated) Event.Tick self.old.replies self.new.replies }
         ensures owed { self.new.owed ≡ self.old.owed }
-        ensures unsent { self.new.unsent ≡ self.old.unsent }
+        ensures held_back { self.new.held_back ≡ self.old.held_back }
     {
         let history = &self.exit.shared.history;
         let event = Event::Tick;
@@ -258,27 +259,27 @@ impl<'a, C: Core + Named, G: Gate> NodeBatch<'a, C, G> {
     fn post_step<R: Wait>(&mut self, rt: &R)
         ensures last { OwesLast (cell_in self.old.seated) self.new.owed }
         ensures still { OwesStill (cell_in self.old.seated) self.old.owed self.new.owed }
-        ensures holds { HoldsBack (cell_in self.old.seated) self.old.unsent self.new.unsent }
+        ensures holds { HoldsBack (cell_in self.old.seated) self.old.held_back self.new.held_back }
         ensures seated { self.new.seated ≡ self.old.seated }
         ensures replies { self.new.replies ≡ self.old.replies }
     {
-        let unsent = self.unsent;
+        let held_back = self.held_back;
         if let Some(position) = lone_entry_of(self.seated.desk.cell()) {
-            self.unsent = unsent.with_entry(position);
+            self.held_back = held_back.with_entry(position);
             return;
         }
         match owed_by(&self.exit.shared.history, &mut self.seated) {
             Some(ack) => self.owe(rt, ack),
             None => self.send_step(rt),
         }
-        self.unsent = unsent.after_another();
+        self.held_back = held_back.after_another();
     }
 
     /// Sends all that the node's last step sends, after what is owed, so messages go out in the
     /// order of the steps.
     fn send_step<R: Wait>(&mut self, rt: &R)
         ensures still { OwesStill (cell_in self.old.seated) self.old.owed self.new.owed }
-        ensures same { self.new.unsent ≡ self.old.unsent }
+        ensures same { self.new.held_back ≡ self.old.held_back }
         ensures seated { self.new.seated ≡ self.old.seated }
         ensures replies { self.new.replies ≡ self.old.replies }
     {
@@ -302,7 +303,7 @@ impl<'a, C: Core + Named, G: Gate> NodeBatch<'a, C, G> {
     /// messages.
     fn send_entries<R: Wait>(&mut self, rt: &R, first: Seq)
         ensures owed { self.new.owed ≡ self.old.owed }
-        ensures same { self.new.unsent ≡ self.old.unsent }
+        ensures same { self.new.held_back ≡ self.old.held_back }
         ensures seated { self.new.seated ≡ self.old.seated }
         ensures replies { self.new.replies ≡ self.old.replies }
     {
@@ -447,8 +448,8 @@ fn run_nodes<R: Wait, C: Core + Named, G: Gate>(
 }
 
 /// Takes batches of the nodes in the chain thread's place, for at most `ROUNDS` rounds, and gives
-/// the place back (`WakeUp::take_place`). Wakes the chain thread if anything still waits then, or
-/// out of memory for the list of the nodes.
+/// the place back (`WakeUp::doze`). Wakes the chain thread if anything still waits then, or out of
+/// memory for the list of the nodes.
 pub(crate) fn run_inline<R: Wait, C: Core + Named, G: Gate>(
     rt: &R,
     shared: &Shared<C, G>,

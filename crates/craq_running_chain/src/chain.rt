@@ -231,8 +231,8 @@ impl<C: Core + Named> Chain<C> {
         Ok(routes.open()?.alive.clone()?)
     }
 
-    /// Brings something to the node of this id. It is lost if there is no such node, and when out
-    /// of memory.
+    /// Puts something into the inbox of the node of this id, where `take_waiting` finds it. It is lost
+    /// if there is no such node, and when out of memory.
     pub(crate) fn forward<R: Wait>(&self, rt: &R, id: NodeId, brought: Delivery<C>) {
         if let Delivery::Blank(_) = &brought {
             self.rest.end();

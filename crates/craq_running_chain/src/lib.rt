@@ -5,9 +5,9 @@
 
 mod batch;
 mod chain;
+mod held_back;
 mod rest;
 mod shared;
-mod unsent;
 mod wake_up;
 mod work;
 

@@ -187,11 +187,11 @@ impl<C: Core + Named, G: Gate> Shared<C, G> {
         }
     }
 
-    /// Returns the way of a request that fits the store's threads. With a chain thread, the caller
-    /// takes the step of a read, and of an update if it may run the whole chain and that thread
-    /// sleeps: then it takes that thread's place. It may leave an update in the queue for later.
-    /// Without one, every request goes into the queue of its node.
-    fn way_of(&self, chain: &Chain<C>, ask: &Ask, reach: Reach) -> RequestWay
+    /// Chooses the way of a request. With a chain thread, the caller takes the step of a read. It also
+    /// takes that of an update, if it may run the whole chain and the chain thread sleeps. Then it has
+    /// that thread's place (`Inline`), and has to call `run_inline`. It may leave an update in the
+    /// queue for later. Without a chain thread, every request goes into the queue of its node.
+    fn choose_way(&self, chain: &Chain<C>, ask: &Ask, reach: Reach) -> RequestWay
         ensures own_step { result ≡ RequestWay.OwnStep → self.now.chain_threads ≡ true }
         ensures inline_step { result ≡ RequestWay.Inline → self.now.chain_threads ≡ true }
         ensures queue { result ≡ RequestWay.Queue → (self.now.chain_threads ≡ false) ⊎ IsUpdate ask.now }
@@ -211,8 +211,8 @@ impl<C: Core + Named, G: Gate> Shared<C, G> {
         }
     }
 
-    /// Sends an owned request to a node of this chain. Returns the reply, or `None` if a completion
-    /// will come.
+    /// Sends the caller's request to a node of this chain, by the way that `choose_way` chooses.
+    /// Returns the reply, or `None` if a completion will come.
     fn submit_own<R: Wait>(
         &self,
         rt: &R,
@@ -222,7 +222,7 @@ impl<C: Core + Named, G: Gate> Shared<C, G> {
         ensures { IsPut C.represents self.now.chain_threads own.entry.made.name own.entry.made.ask own.entry.pass own.entry.at.token (in_hand result) }
     {
         let AskedChain { chain, reach } = asked;
-        match self.way_of(chain, own.made.ask(), reach) {
+        match self.choose_way(chain, own.made.ask(), reach) {
             RequestWay::OwnStep => self.serve_at(rt, chain, own, Wakes::ChainThread),
             RequestWay::Inline => {
                 let reply = self.serve_at(rt, chain, own, Wakes::Nobody);

@@ -15,7 +15,7 @@ use Rattle.craq_event_loop.specs.Halves.{asked_by}
 use Rattle.craq_event_loop.specs.Turns.{Refusing, for_memory, kept, name_of}
 use Rattle.craq_event_loop.specs.declared.door_calls.DoorCalls.{DoorCalls}
 use Rattle.craq_event_loop.specs.declared.connection_state.CallRequest.{CallRequest}
-use Rattle.craq_event_loop.specs.declared.submitting.UnsentCall.{UnsentCall}
+use Rattle.craq_event_loop.specs.declared.connection_state.UnsentCall.{UnsentCall}
 use Rattle.craq_event_loop.specs.declared.connection_state.ConnectionState.{ConnectionState}
 use Rattle.craq_event_loop.specs.declared.connection_state.Ending.TheVariants as endings
 use Rattle.craq_event_loop.specs.declared.connection_state.Phase.{Phase}

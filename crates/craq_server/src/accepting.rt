@@ -385,7 +385,7 @@ where
 /// connections were made as the `Serving` of `event_loops` says, or `connections` are to end, or
 /// the listener has failed, and all connections are over.
 ///
-/// Where `event_loops` has threads, they serve all connections in turn; else each connection has a
+/// Where there are `event_loops`, they serve all connections in turn. Else each connection has a
 /// thread of its own. Fails where one of those threads cannot be made; no connection was taken
 /// then.
 ///

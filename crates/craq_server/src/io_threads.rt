@@ -80,6 +80,7 @@ where
 
     ghost finishes = { λ context. FinishesCall };
 
+    /// Submits the call as the thread's `ServedStore` does.
     fn submit(
         &self,
         session: &mut StoreSession<C>,

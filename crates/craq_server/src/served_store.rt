@@ -160,6 +160,7 @@ where
 
     ghost finishes = { λ served. FinishesCall };
 
+    /// Counts the request, and submits its call to the store (`Store::submit`).
     #[tactic(auto, using(crate::proofs::Sessions::served_encodable))]
     fn submit(
         &self,
@@ -200,6 +201,7 @@ where
         self.bulk_limit.end(&self.rt);
     }
 
+    /// Sleeps until a completion comes into the thread's queue, and returns its reply.
     fn wait(&self) -> StoreOutcome<C> {
         let Some(completion) = self.completions.wait(&self.rt) else {
             return Err(CallRefusal::without_call(Refusal::Closed));

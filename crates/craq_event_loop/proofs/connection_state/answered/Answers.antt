@@ -3,7 +3,7 @@ use Rattle.craq_event_loop.specs.declared.connection_state.Phase.{Phase}
 use Rattle.craq_event_loop.specs.ConnectionStates.{AnswersCall}
 use Rattle.craq_event_loop.specs.Halves.{asked_by}
 use Rattle.craq_event_loop.proofs.ConnectionStates.{continues_room}
-use Rattle.craq_event_loop.proofs.phases.answered.Goals as goal
+use Rattle.craq_event_loop.proofs.connection_state.answered.Goals as goal
 
 pub end_turn-reply-requires-clause-room : goal.end_turn-reply-requires-clause-room
 end_turn-reply-requires-clause-room c = c.requires.room c.in-Waits.request c.in-Waits.is

@@ -1,5 +1,5 @@
 use Rattle.craq_event_loop.proofs.ConnectionStates.{continues_room}
-use Rattle.craq_event_loop.proofs.phases.begin.Goals as goal
+use Rattle.craq_event_loop.proofs.connection_state.begin.Goals as goal
 
 pub returns-in-Reported-clause-took : goal.returns-in-Reported-clause-took
 returns-in-Reported-clause-took g c = (c.in-Reported.reply, c.next_phase.ensures.more c.args.message, c.in-Reported.ensures.begun.0, c.in-Reported.ensures.room, c.next_phase.ensures.continues, c.in-Reported.ensures.receipts)

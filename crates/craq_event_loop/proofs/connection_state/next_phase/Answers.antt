@@ -1,6 +1,6 @@
 use Rattle.std.proofs.Common.{None, Some}
 use Rattle.craq_event_loop.proofs.ConnectionStates.{none_unsent, then_lost, then_replied}
-use Rattle.craq_event_loop.proofs.phases.next_phase.Goals as goal
+use Rattle.craq_event_loop.proofs.connection_state.next_phase.Goals as goal
 
 pub returns-in-Ok-Some-clause-more : goal.returns-in-Ok-Some-clause-more
 returns-in-Ok-Some-clause-more c = λ m read written turns s.

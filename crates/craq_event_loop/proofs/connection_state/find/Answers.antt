@@ -1,5 +1,5 @@
 use Rattle.craq_event_loop.proofs.ConnectionStates.{no_more_unsent, then_asked, then_ended, then_nothing, then_refused, then_too_long}
-use Rattle.craq_event_loop.proofs.phases.find.Goals as goal
+use Rattle.craq_event_loop.proofs.connection_state.find.Goals as goal
 
 pub returns-in-Ok-Ask-clause-more : goal.returns-in-Ok-Ask-clause-more
 returns-in-Ok-Ask-clause-more g c = λ read written turns s.

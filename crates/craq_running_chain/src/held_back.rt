@@ -1,4 +1,4 @@
-//! `Unsent`: the entries that a batch of a node's steps holds back, to send them together; for
+//! `HeldBack`: the entries that a batch of a node's steps holds back, to send them together. For
 //! `batch`.
 ghost use Rattle.std.specs.Prelude.{◌≡◌};
 ghost use Rattle.craq_running_chain.specs.Batches.{after_another, with_entry};
@@ -7,7 +7,7 @@ use craq_names::Seq;
 
 /// The entries that a batch's steps made and that have not been sent.
 #[derive(Clone, Copy, Debug, PartialEq, Eq)]
-pub(crate) enum Unsent {
+pub(crate) enum HeldBack {
     /// None.
     Nothing,
     /// One entry, of this position, which the node's last step sends.
@@ -16,14 +16,14 @@ pub(crate) enum Unsent {
     Several(Seq),
 }
 
-impl Unsent {
+impl HeldBack {
     /// Returns what is held back once an entry of this position is held back too.
     pub(crate) fn with_entry(self, position: Seq) -> Self
         ensures { result ≡ with_entry position self }
     {
         match self {
-            Unsent::Nothing => Unsent::Last(position),
-            Unsent::Last(first) | Unsent::Several(first) => Unsent::Several(first),
+            HeldBack::Nothing => HeldBack::Last(position),
+            HeldBack::Last(first) | HeldBack::Several(first) => HeldBack::Several(first),
         }
     }
 
@@ -32,8 +32,8 @@ impl Unsent {
         ensures { result ≡ after_another self }
     {
         match self {
-            Unsent::Nothing => Unsent::Nothing,
-            Unsent::Last(first) | Unsent::Several(first) => Unsent::Several(first),
+            HeldBack::Nothing => HeldBack::Nothing,
+            HeldBack::Last(first) | HeldBack::Several(first) => HeldBack::Several(first),
         }
     }
 }

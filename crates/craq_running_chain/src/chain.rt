@@ -41,8 +41,8 @@ pub struct Open {
     pub alive: Sender<()>,
 }
 
-/// A chain that runs: its name, its id and its first membership, its master's cell under its lock,
-/// its routing table, the wake-up of its chain thread, and the ticks since it last had work.
+/// A chain that runs, as its threads and its callers share it: its master under a lock, the routes to
+/// its nodes, the wake-up of its chain thread, and the ticks since it last had work.
 #[derive(Drop)]
 pub struct Chain<C: Core + Named> {
     pub name: String,
@@ -163,9 +163,12 @@ impl<C: Core + Named> Chain<C> {
             && are_same(first_members(opening), self.first.members.as_slice())
     }
 
-    /// Returns the node of this id. Refused with `Closed` if the store is closed, `WrongNode` if
-    /// the chain never had the node, `Stopped` if it was removed and dropped, and `Memory` when out
-    /// of memory.
+    /// Returns the node of this id. Refused with:
+    ///
+    /// - `Closed` if the store is closed;
+    /// - `WrongNode` if the chain never had the node;
+    /// - `Stopped` if it was removed and dropped;
+    /// - `Memory` when out of memory.
     pub fn node<R: Wait>(&self, rt: &R, id: NodeId) -> Result<Arc<RunningNode<C>>, Refusal>
         ensures { IfErr result (λ e. IsMissed e) }
     {

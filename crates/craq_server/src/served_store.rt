@@ -108,10 +108,11 @@ where
     }
 
     /// Takes the receipts of a connection that has ended, where they are kept. A new connection with
-    /// a new session reached its state. **Each call of its session is in one of its turns, and each
-    /// reply to an update or a read is witnessed in the store's history**, after all that the
-    /// connection had seen before. The bytes of these turns came and went on it
-    /// (`craq_event_loop`).
+    /// a new session reached its state.
+    ///
+    /// **Each call of its session is in one of its turns. Each reply to an update or a read is
+    /// witnessed in the store's history**, after all that the connection had seen before. The bytes of
+    /// these turns came and went on it (`craq_event_loop`).
     #[tactic(auto, using(crate::proofs::Reached::reachable_witnessed))]
     pub(crate) fn end_connection(&self, state: ConnectionState<StoreSession<C>>) -> Vec<CallReceipt>
         requires { IsReachableAt self.now.store.now self.now.passes.now.leap state }

@@ -93,9 +93,9 @@ impl<C: Core + Named, G: Gate> Client<C, G> {
     /// store.
     ///
     /// The client has then made one call more. It has seen a history of the store in which its node
-    /// accepted this request, after all that the client had seen before the call, and gave this
-    /// answer (`IsWitnessed`). So a single copy gives each strong reply after a prefix of the chain's
-    /// updates, by the law `strong_replies_are_of_one_copy` of `craq_running_promise`.
+    /// accepted this request and gave this answer (`IsWitnessed`). The node accepted it after all that
+    /// the client had seen before the call. So a single copy gives each strong reply after a prefix of
+    /// the chain's updates, by the law `strong_replies_are_of_one_copy` of `craq_running_promise`.
     ///
     /// Refused, with the pass as it was, with:
     /// - `UnknownChain` exactly if the store has no such chain;

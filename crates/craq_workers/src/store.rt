@@ -321,8 +321,8 @@ impl<C: Core + Named, G: Gate> Store<C, G> {
         self.form.journal
     }
 
-    /// Makes a client of the store with this pass, and with a session of its own, which made no call
-    /// and has seen nothing of the store's history yet. Fails when out of memory, and if 2^64 - 1
+    /// Makes a client of the store with this pass and a session of its own. The session has made no
+    /// call, and has seen nothing of the store's history. Fails when out of memory, and if 2^64 - 1
     /// clients were made.
     pub fn client<R: Wait>(&self, rt: &R, pass: Pass) -> Result<Client<C, G>, AllocError>
         ensures chains { IfOk result (λ c. c.chains ≡ length self.now.names) }

@@ -60,9 +60,13 @@ fn answer_pending(
 }
 
 /// Plans an acknowledgement: the history is committed up to a position. Updates that waited for it
-/// get their replies, and the acknowledgement goes to the predecessor (OSDI 2004). Ignored if the
-/// sender is not the successor (`NotNeighbour`), if the node is not ready (`NotReadyHere`), if its
-/// commit index is as high (`AlreadyHave`), or if it holds fewer entries (`TooFar`).
+/// get their replies, and the acknowledgement goes to the predecessor (OSDI 2004). Ignored, in this
+/// order:
+///
+/// - `NotNeighbour` if the sender is not the successor.
+/// - `NotReadyHere` if the node is not ready.
+/// - `AlreadyHave` if its commit index is as high.
+/// - `TooFar` if it holds fewer entries.
 #[tactic(auto, unfolding(craq_model::specs::Deliveries::ack_transition, craq_model::specs::Deliveries::acknowledgement_transition))]
 pub fn compute_ack<H: History>(
     alloc: Global,
@@ -308,10 +312,13 @@ pub fn compute_entry<H: History>(
 /// of the others all are appended, or none. The tail commits them, any other ready node forwards
 /// them (OSDI 2004), and a node that is not ready may become ready.
 ///
-/// Ignored if the sender is not the predecessor (`NotNeighbour`), if the node holds all of them
-/// (`AlreadyHave`), if the first is beyond the next position (`OutOfOrder`), or if one does not fit
-/// after those before it: a write whose version is not its object's next, or a request number that
-/// is not new (`TooFar`). Batches are this project's profile.
+/// Ignored, in this order (batches are this project's profile):
+///
+/// - `NotNeighbour` if the sender is not the predecessor.
+/// - `AlreadyHave` if the node holds all of them.
+/// - `OutOfOrder` if the first is beyond the next position.
+/// - `TooFar` if one does not fit after those before it: a write whose version is not its object's
+///   next, or a request number that is not new.
 ///
 /// The entries are moved into the history, and copied only for the successor. Ignoring them
 /// allocates nothing.

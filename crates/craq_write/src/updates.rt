@@ -262,13 +262,16 @@ fn compute_new<H: History>(
 /// Plans an update at a ready head that has a ticket left. A new number makes an entry, at the next
 /// position. An earlier number gets the kept reply, or `Stale`, at the position of its client's
 /// newest entry. If that position is committed, this step sends the reply; else the update waits.
-/// The head decides an update and sends the resulting values (USENIX ATC 2009); entries for updates
+/// The head decides an update and sends the resulting values (USENIX ATC 2009). Entries for updates
 /// that write nothing, and at most 8 kept replies for a client, are this project's profile.
 ///
-/// The errors, in order: `Exhausted` if a new one finds no next position, or names an object
-/// without a next version; `PendingFull` if it would have to wait and 1,024 requests wait; `Memory`
-/// only if none of these applies. They are found before anything is evaluated or copied. The value
-/// of a put is moved into the entry, and copied only for the successor.
+/// The errors, in order, found before anything is evaluated or copied:
+///
+/// - `Exhausted` if a new one finds no next position, or names an object without a next version.
+/// - `PendingFull` if it would have to wait and 1,024 requests wait.
+/// - `Memory` only if none of these applies.
+///
+/// The value of a put is moved into the entry, and copied only for the successor.
 #[tactic(auto, unfolding(craq_model::specs::Asks::update_transition, craq_model::specs::Plain::newest))]
 pub fn compute_update<H: History>(
     alloc: Global,

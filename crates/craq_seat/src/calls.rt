@@ -1,6 +1,7 @@
 //! Calls that wait at a desk, and their receipts once a step answers them; used by `desk`.
 ghost use Rattle.std.specs.Prelude.{◌≡◌, ◌∷◌, ◌++◌, [], if◌then◌else◌, IfOk, IfSome, OnErr, OnOk, Some};
 ghost use Rattle.std.specs.List.{list_any};
+ghost use Rattle.std.specs.Option.{option_to_list};
 ghost use Rattle.craq_node_invariant.specs.Sound.{AreEncodable, IsEncodableAnswer, IsEncodableOut};
 ghost use Rattle.craq_seat.specs.Calls.{AnswersItself, Serves, ServesAsked, accepted, all_answered, answered_call, answers_to, ask_of, call_under, called_by, called_in, is_answer, left_by, waiting_after, without_call};
 
@@ -166,49 +167,6 @@ fn add_answered(
     }
 }
 
-/// Makes the receipt of a copy of a call, and appends it. Fails only when out of memory.
-fn add_copied(
-    receipts: &mut Vec<CallReceipt>,
-    alloc: Global,
-    call: &Call,
-    answered: &Receipt,
-    answer: &Answer,
-) -> Result<(), AllocError>
-    requires { IsEncodableAnswer answer.now }
-    ensures ok { OnOk result (receipts.new.items ≡ receipts.old.items ++ answered_call (Some call.now) answered.now answer.now) }
-    ensures err { OnErr result (receipts.new.items ≡ receipts.old.items) }
-{
-    let call = call.copied(alloc)?;
-    add_answered(receipts, alloc, call, answered, answer)
-}
-
-/// Returns the call receipts of the outputs, in order.
-fn called_in(
-    alloc: Global,
-    calls: &TicketQueue<Call>,
-    outs: &[Out],
-    answered: Receipt,
-) -> Result<Vec<CallReceipt>, AllocError>
-    requires { AreEncodable outs.now }
-    ensures { IfOk result (λ receipts. receipts.items ≡ called_in calls.now.items answered outs.now) }
-{
-    let mut receipts = Vec::new(alloc);
-    if answers_any(outs) {
-        receipts.reserve(outs.len())?;
-    }
-    for out in outs {
-        if let Out::Answer { ticket, answer } = out {
-            if let Some(call) = calls.get(*ticket) {
-                if let Err(error) = add_copied(&mut receipts, alloc, call, &answered, answer) {
-                    drop(receipts);
-                    return Err(error);
-                }
-            }
-        }
-    }
-    Ok(receipts)
-}
-
 /// Copies the call that waits under this ticket.
 fn copy_of_call(
     alloc: Global,
@@ -328,51 +286,21 @@ fn forget_answered(waiting: &mut TicketQueue<Call>, outs: &[Out])
     }
 }
 
-/// Adds the accepted request, if there is one, to the waiting calls.
-fn accept(
-    waiting: &mut TicketQueue<Call>,
-    asked: Option<Ask>,
-    taken: &TakenStep<'_>,
-) -> Result<(), AllocError>
-    ensures ok { OnOk result (waiting.new.items ≡ waiting.old.items ++ accepted asked taken.now.step.now.ticket taken.now.receipt.now taken.now.pass) }
-    ensures err { OnErr result (waiting.new.items ≡ waiting.old.items) }
+/// Returns the call of a request that a step accepted, if there is one and it got a ticket.
+fn new_call(asked: Option<Ask>, taken: &TakenStep<'_>) -> Option<Call>
+    ensures { option_to_list result ≡ accepted asked taken.now.step.now.ticket taken.now.receipt.now taken.now.pass }
 {
-    let Some(ask) = asked else {
-        return Ok(());
-    };
+    let ask = asked?;
     let Some(ticket) = taken.step.ticket else {
         drop(ask);
-        return Ok(());
+        return None;
     };
-    waiting.push(Call {
+    Some(Call {
         asked: *taken.receipt,
         ticket,
         pass: taken.pass,
         ask,
-    })?;
-    Ok(())
-}
-
-/// Adds the accepted request to the waiting calls and makes the call receipts of the step.
-/// Unchanged when out of memory.
-fn answer_calls(
-    alloc: Global,
-    waiting: &mut TicketQueue<Call>,
-    asked: Option<Ask>,
-    taken: &TakenStep<'_>,
-) -> Result<Vec<CallReceipt>, AllocError>
-    requires { AreEncodable taken.now.step.now.outs }
-    ensures receipts { IfOk result (λ receipts. receipts.items ≡ called_in (waiting.old.items ++ accepted asked taken.now.step.now.ticket taken.now.receipt.now taken.now.pass) taken.now.receipt.now taken.now.step.now.outs) }
-    ensures ok { OnOk result (waiting.new.items ≡ waiting.old.items ++ accepted asked taken.now.step.now.ticket taken.now.receipt.now taken.now.pass) }
-    ensures err { OnErr result (waiting.new.items ≡ waiting.old.items) }
-{
-    let before = waiting.len();
-    accept(waiting, asked, taken)?;
-    let receipts = called_in(alloc, waiting, taken.step.outs.as_slice(), *taken.receipt);
-    if receipts.is_err() {
-        waiting.truncate(before);
-    }
-    receipts
+    })
 }
 
 /// Returns the reply of a step whose only output answers the request that it accepts, under a
@@ -403,18 +331,8 @@ fn answer_own(
     requires { IsEncodableAnswer answer.now }
     ensures { IfOk result (λ receipts. receipts.items ≡ all_answered (accepted asked taken.now.step.now.ticket taken.now.receipt.now taken.now.pass) taken.now.receipt.now answer.now) }
 {
-    let Some(ask) = asked else {
+    let Some(call) = new_call(asked, taken) else {
         return Ok(Vec::new(alloc));
-    };
-    let Some(ticket) = taken.step.ticket else {
-        drop(ask);
-        return Ok(Vec::new(alloc));
-    };
-    let call = Call {
-        asked: *taken.receipt,
-        ticket,
-        pass: taken.pass,
-        ask,
     };
     let mut receipts = Vec::new(alloc);
     match add_answered(&mut receipts, alloc, call, taken.receipt, answer) {
@@ -442,6 +360,32 @@ fn serve_waiting(
     receipts
 }
 
+/// Answers the calls of a step that accepts this one, which waits behind the others. When out of
+/// memory, it is dropped, and so are those that the step answers.
+fn serve_new(
+    alloc: Global,
+    waiting: &mut TicketQueue<Call>,
+    call: Call,
+    taken: &TakenStep<'_>,
+) -> Result<Vec<CallReceipt>, AllocError>
+    requires { AreEncodable taken.now.step.now.outs }
+    ensures { Serves waiting.old.items waiting.new.items (call ∷ []) taken.now.receipt.now taken.now.step.now.outs result }
+{
+    let ticket = call.ticket;
+    let outs = taken.step.outs.as_slice();
+    if let Err(refused) = waiting.push(call) {
+        drop(refused);
+        forget_answered(waiting, outs);
+        return Err(AllocError);
+    }
+    let receipts = serve_waiting(alloc, waiting, taken.receipt, outs);
+    if receipts.is_err() && !is_answered(outs, ticket) {
+        let others = waiting.len().saturating_sub(1);
+        waiting.truncate(others);
+    }
+    receipts
+}
+
 /// Answers the calls of a step that accepts a request. The request waits from now on, unless
 /// answering it is the step's only output.
 fn serve_accepted(
@@ -460,11 +404,10 @@ fn serve_accepted(
         }
         Ok(asked) => match own_answer(waiting, taken.step) {
             Some(answer) => answer_own(alloc, asked, taken, answer),
-            None => {
-                let calls = answer_calls(alloc, waiting, asked, taken);
-                forget_answered(waiting, taken.step.outs.as_slice());
-                calls
-            }
+            None => match new_call(asked, taken) {
+                Some(call) => serve_new(alloc, waiting, call, taken),
+                None => serve_waiting(alloc, waiting, taken.receipt, taken.step.outs.as_slice()),
+            },
         },
     }
 }

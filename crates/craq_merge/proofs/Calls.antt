@@ -63,10 +63,10 @@ ask_seen chain j lines g m rs r call among there p event ticket =
     (subst (IsIn (asks_from 1 (map (taken_among lines) lines))) (same_asked (1 + p.place) (suc p.place) id id r.step.ticket (Some call.ticket) call.ask (one_more p.place) refl ticket) a)
 
 -- the reply
-abbrev answered_of : ℕ → ℕ → ℕ → Answer → Answered
+abbrev pub answered_of : ℕ → ℕ → ℕ → Answer → Answered
 answered_of move node ticket answer = record { move = move; node = node; ticket = ticket; answer = answer }
 
-same_answered : (a b m n ticket : ℕ) (answer : Answer) → a ≡ b → m ≡ n → answered_of a m ticket answer ≡ answered_of b n ticket answer
+pub same_answered : (a b m n ticket : ℕ) (answer : Answer) → a ≡ b → m ≡ n → answered_of a m ticket answer ≡ answered_of b n ticket answer
 same_answered a b m n ticket answer e f = rw (e, f) refl
 
 answer_seen : (chain : ℕ) (j : Journals) (lines : List MergedStep) (id : ℕ) (r : Record Event) (c : Called) (p : HasPlace lines id r) (g : AreGood chain j) → IsMerge j lines → AreSound j.members lines → id ≡ c.call.asked.node → IsIn r.step.outs (outs.Answer c.call.ticket c.answer) → Contains (seen (run_of j.members lines)).answers (run_answer_of_call c (suc p.place))

@@ -108,7 +108,7 @@ one_place lines i k a r h g =
     let b : k < i → ⊥ = λ lt. not_itself a a refl (later_line lines k i a a r g h lt) in
     grind (arith, f, b)
 
-named_so : (x : Asked) (node ticket : ℕ) → ((x.node == node) && is_ticket x.ticket ticket) ≡ true → (x.node ≡ node) × (x.ticket ≡ Some ticket)
+pub named_so : (x : Asked) (node ticket : ℕ) → ((x.node == node) && is_ticket x.ticket ticket) ≡ true → (x.node ≡ node) × (x.ticket ≡ Some ticket)
 named_so x node ticket h = by_ticket x.ticket refl
   where
     by_ticket : (o : Option ℕ) → x.ticket ≡ o → (x.node ≡ node) × (x.ticket ≡ Some ticket)

@@ -1,6 +1,7 @@
 -- A reply that a pass covers comes no later in the list of committed updates.
 use Rattle.std.proofs.Common.{◌≡◌, ◌<◌, ◌≤◌, ℕ, zero, suc, ◌+◌, ◌-◌, List, [], ◌∷◌, map, length, Option, Some, refl, ap, subst, arith}
 use Rattle.std.specs.Prelude.{slice_get}
+use Rattle.std.proofs.lemmas.Option.{slice_get_within}
 use Rattle.craq_runs.specs.declared.explanation.Explanation.{Explanation}
 use Rattle.craq_runs.specs.declared.explanation.Place.{Place}
 use Rattle.craq_runs.specs.Seen.{Asked, Seen, ask_of, seen}
@@ -20,27 +21,22 @@ grown s e i (suc d) g le =
     let n : i + suc d ≡ i + d + 1 = omega arith in
     rw n (omega (arith, a, b))
 
-grown_to : (s : Seen) (e : Explanation) (i k : ℕ) → OnlyGrows s e → i ≤ k → k ≤ s.moves → committed_after e i ≤ committed_after e k
+pub grown_to : (s : Seen) (e : Explanation) (i k : ℕ) → OnlyGrows s e → i ≤ k → k ≤ s.moves → committed_after e i ≤ committed_after e k
 grown_to s e i k g le few =
     let n : i + (k - i) ≡ k = omega (arith, le) in
     let h = grown s e i (k - i) g (omega (arith, le, few)) in
     subst (λ x. committed_after e i ≤ committed_after e x) n h
 
 -- there are as many moves as lines
-as_many : (all lines : List MergedStep) → length (map (taken_among all) lines) ≡ length lines
+pub as_many : (all lines : List MergedStep) → length (map (taken_among all) lines) ≡ length lines
 as_many all [] = refl
 as_many all (l ∷ lines) = ap suc (as_many all lines)
 
-within_length : {X : Type 0} (xs : List X) (i : ℕ) (x : X) → slice_get xs i ≡ Some x → i < length xs
-within_length [] i x h = cc
-within_length (y ∷ xs) zero x h = omega arith
-within_length (y ∷ xs) (suc i) x h = let t = within_length xs i x h in omega (arith, t)
-
 is_move : (lines : List MergedStep) (move : ℕ) (l : MergedStep) → line_at lines move ≡ Some l → move ≤ length lines
 is_move lines zero l h = omega arith
-is_move lines (suc i) l h = let t = within_length lines i l h in omega (arith, t)
+is_move lines (suc i) l h = let t = slice_get_within lines i l h in omega (arith, t)
 
-same_some : (x y : Asked) (o : Option Asked) → o ≡ Some x → o ≡ Some y → x ≡ y
+pub same_some : (x y : Asked) (o : Option Asked) → o ≡ Some x → o ≡ Some y → x ≡ y
 same_some x y o h k = cc
 
 pub no_older : (members : List ℕ) (lines : List MergedStep) (e : Explanation) (earlier later : Called) (p q : Place) (first : IsWithin lines (run_of members lines) earlier) (second : IsWithin lines (run_of members lines) later) → OnlyGrows (seen (run_of members lines)) e → IsExplained (seen (run_of members lines)) e (run_answer_of_call earlier first.answered) p → IsExplained (seen (run_of members lines)) e (run_answer_of_call later second.answered) q → earlier.answered.stamp ≤ later.call.pass → p.position ≤ q.position

@@ -26,6 +26,7 @@ use Rattle.craq_store_history.proofs.Lines.{lines_prefix}
 use Rattle.craq_running_promise.specs.Standing.{AnswersAsOneCopy, AnswersByMode, HasChain, HasMoves, IsCallInRun, IsOperationOf, Operation, IsCallInHistory, explanation_of_chain, reply_at, run_in, updates_of_chain, view_of_chain}
 use Rattle.craq_running_promise.proofs.Seen.{is_call}
 use Rattle.craq_running_promise.proofs.Standing.{has_explanation, no_longer, stands}
+use Rattle.craq_merge.proofs.Positions.{as_many, grown_to, same_some}
 
 -- ---- lists
 
@@ -63,9 +64,6 @@ zipped R f g (a ∷ xs) (b ∷ ys) x z m (inr i) =
 strong_reply : (ask : Asked) (answer : Answer) → is_strong_ask ask.ask ≡ true → is_strong_answer (Some ask) answer ≡ true
 strong_reply ask (answers.Update reply) h = refl
 strong_reply ask (answers.Read version value) h = h
-
-same_some : (x y : Asked) (o : Option Asked) → o ≡ Some x → o ≡ Some y → x ≡ y
-same_some x y o h k = cc
 
 -- the request and the reply of a call, as clients see them
 abbrev request : NodeName → Ask → Called → ℕ → Asked
@@ -203,24 +201,6 @@ by_mode client o members log w p h weak =
     }
 
 -- ---- the order of two replies
-
-grown : (s : Seen) (e : Explanation) (i d : ℕ) → OnlyGrows s e → i + d ≤ s.moves → committed_after e i ≤ committed_after e (i + d)
-grown s e i zero g le = let n : i + 0 ≡ i = omega arith in rw n (omega arith)
-grown s e i (suc d) g le =
-    let a = grown s e i d g (omega (arith, le)) in
-    let b = g.grows (i + d) (omega (arith, le)) in
-    let n : i + suc d ≡ i + d + 1 = omega arith in
-    rw n (omega (arith, a, b))
-
-grown_to : (s : Seen) (e : Explanation) (i k : ℕ) → OnlyGrows s e → i ≤ k → k ≤ s.moves → committed_after e i ≤ committed_after e k
-grown_to s e i k g le few =
-    let n : i + (k - i) ≡ k = omega (arith, le) in
-    let h = grown s e i (k - i) g (omega (arith, le, few)) in
-    subst (λ x. committed_after e i ≤ committed_after e x) n h
-
-as_many : (all lines : List MergedStep) → length (map (taken_among all) lines) ≡ length lines
-as_many all [] = refl
-as_many all (l ∷ lines) = ap suc (as_many all lines)
 
 -- a reply comes before a request, so its prefix is no longer
 pub ordered : (o next : Operation) (members : List ℕ) (log : List HistoryEntry) → HasChain o.node.chain members log → next.node.chain ≡ o.node.chain

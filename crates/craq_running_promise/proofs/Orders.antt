@@ -14,6 +14,7 @@ use Rattle.craq_strong_answers.proofs.Strong.{clients_run}
 use Rattle.craq_updates.proofs.Explained.{taken_front, typed_front}
 use Rattle.craq_updates.proofs.Found.{ask_stays}
 use Rattle.craq_updates.proofs.Runs.{known_run, run_account}
+use Rattle.craq_merge.proofs.Positions.{same_some}
 
 -- ---- the first moves of a run
 
@@ -65,9 +66,6 @@ asks_append number (t ∷ ts) us =
     let n : number + 1 + length ts ≡ number + suc (length ts) = omega arith in
     ap (λ (l : List Asked). first ++ l) (asks_append (number + 1) ts us)
     ∙ (ap (λ k. first ++ (asks_from (number + 1) ts ++ asks_from k us)) n ∙ sym (append_assoc first (asks_from (number + 1) ts) (asks_from (number + suc (length ts)) us)))
-
-same_some : (x y : Asked) (o : Option Asked) → o ≡ Some x → o ≡ Some y → x ≡ y
-same_some x y o h k = cc
 
 -- ---- the request of a reply among the first moves is one of them
 

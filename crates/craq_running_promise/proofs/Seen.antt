@@ -1,6 +1,7 @@
 -- A call that stands in the lines of a chain is a request and its reply in their run, as clients see it.
 use Rattle.std.proofs.Common.{◌≡◌, ◌<◌, ◌≤◌, ℕ, zero, suc, ◌+◌, ◌==◌, ◌&&◌, Bool, true, List, [], ◌∷◌, map, length, Option, Some, None, refl, sym, ap, subst, arith, ◌∙◌, inl, inr}
 use Rattle.std.specs.Prelude.{Contains, slice_get}
+use Rattle.std.proofs.lemmas.Option.{slice_get_within}
 use Rattle.craq_names.specs.declared.name.NodeName.{NodeName}
 use Rattle.craq_model.specs.declared.ask.Answer.{Answer}
 use Rattle.craq_model.specs.declared.ask.Ask.{Ask}
@@ -30,6 +31,9 @@ use Rattle.craq_store_history.specs.Chains.{ChainHolds, IsHistory}
 use Rattle.craq_store_history.specs.Entries.{lines_in, members_in}
 use Rattle.craq_running_promise.specs.Standing.{IsCallInRun, IsCallInHistory, run_in}
 use Rattle.craq_running_promise.proofs.Orders.{among_first, cut}
+use Rattle.craq_merge.proofs.Calls.{answered_of, same_answered}
+use Rattle.craq_merge.proofs.Named.{named_so}
+use Rattle.craq_merge.proofs.Positions.{as_many}
 
 -- ---- places of lines
 
@@ -76,13 +80,6 @@ one_line chain members id lines ticket l m e causal at i k a b s t =
 
 -- ---- requests
 
-named_so : (x : Asked) (node ticket : ℕ) → ((x.node == node) && is_ticket x.ticket ticket) ≡ true → (x.node ≡ node) × (x.ticket ≡ Some ticket)
-named_so x node ticket h = by_ticket x.ticket refl
-  where
-    by_ticket : (o : Option ℕ) → x.ticket ≡ o → (x.node ≡ node) × (x.ticket ≡ Some ticket)
-    by_ticket None e = absurd (grind (arith, h, e))
-    by_ticket (Some k) e = (grind (arith, h, e), e ∙ ap Some (grind (arith, h, e)))
-
 abbrev asked_of : ℕ → ℕ → ℕ → Ask → Asked
 asked_of move node ticket ask = record { move = move; node = node; ticket = Some ticket; ask = ask }
 
@@ -128,12 +125,6 @@ module _ (chain : ℕ) (members : List ℕ) (lines : List MergedStep) (id ticket
 
 -- ---- replies
 
-abbrev answered_of : ℕ → ℕ → ℕ → Answer → Answered
-answered_of move node ticket answer = record { move = move; node = node; ticket = ticket; answer = answer }
-
-same_answered : (a b m n ticket : ℕ) (answer : Answer) → a ≡ b → m ≡ n → answered_of a m ticket answer ≡ answered_of b n ticket answer
-same_answered a b m n ticket answer e f = rw (e, f) refl
-
 pub answer_is : (chain : ℕ) (members : List ℕ) (lines : List MergedStep) (id ticket place : ℕ) (line : MergedStep) (answer : Answer) → AreCausal chain members lines → AreSound members lines → slice_get lines place ≡ Some line → line.node ≡ id
     → Contains line.step.outs (outs.Answer ticket answer) → Contains (answers_from 1 [] (map (taken_among lines) lines)) (answered_of (suc place) id ticket answer)
 answer_is chain members lines id ticket place line answer causal s at node out =
@@ -150,15 +141,6 @@ causal_in chain o members lines e h = subst (λ (p : Option (List ℕ)). ChainHo
 -- the lines of an opened chain are in causal order
 pub are_causal : (log : List HistoryEntry) (chain : ℕ) (members : List ℕ) → IsHistory log → members_in chain log ≡ Some members → AreCausal chain members (lines_in chain log) × AreTyped (lines_in chain log)
 are_causal log chain members h opened = causal_in chain (members_in chain log) members (lines_in chain log) opened (h.chains chain)
-
-as_many : (all lines : List MergedStep) → length (map (taken_among all) lines) ≡ length lines
-as_many all [] = refl
-as_many all (l ∷ lines) = ap suc (as_many all lines)
-
-within_length : {X : Type 0} (xs : List X) (i : ℕ) (x : X) → slice_get xs i ≡ Some x → i < length xs
-within_length [] i x h = cc
-within_length (y ∷ xs) zero x h = omega arith
-within_length (y ∷ xs) (suc i) x h = let t = within_length xs i x h in omega (arith, t)
 
 -- the reply is no earlier than the request
 in_order : (chain : ℕ) (members : List ℕ) (moves : List Taken) (asked : Asked) (x : Answered) (at : ℕ) → x.move ≡ at → at ≤ length moves → IsTypedRunOf chain (record { members = members; moves = moves })
@@ -179,7 +161,7 @@ is_call old new log node ask receipt s h few =
     let are : AreSound s.members lines = sound node.chain s.members lines of_chain.0 few in
     let asked = ask_is node.chain s.members lines node.node receipt.call.ticket s.asked_place s.asked ask of_chain.0 are.apart s.asked_at s.asked_node s.event s.ticket in
     let answered = answer_is node.chain s.members lines node.node receipt.call.ticket s.answered_place s.answered receipt.answer of_chain.0 are s.answered_at s.answered_node s.out in
-    let place = within_length lines s.answered_place s.answered s.answered_at in
+    let place = slice_get_within lines s.answered_place s.answered s.answered_at in
     let x : Answered = answered_of (suc s.answered_place) node.node receipt.call.ticket receipt.answer in
     record {
       is_ask = asked;

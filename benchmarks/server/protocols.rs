@@ -24,7 +24,7 @@ impl Kind {
     }
 }
 
-/// Which nodes of `craqd` answer reads.
+/// The nodes of `craqd` that answer reads.
 #[derive(Clone, Copy, PartialEq)]
 pub enum Readers {
     Head,

@@ -1,5 +1,5 @@
-"""Which bytes are requests, and which replies they may get: read from docs/use/BYTES.md alone, to
-compare a server with."""
+"""The bytes that are requests, and the replies that they may get: read from docs/use/BYTES.md alone,
+to compare a server with."""
 import re
 
 from tools import plain_client as example

@@ -21,7 +21,7 @@ const LAST_UNSENT_TRY: u64 = 5;
 /// The wait before a retry grows by this many milliseconds with each retry.
 const PAUSE_MILLISECONDS: u64 = 50;
 
-/// Where requests go, the pass that they show, and how long they may take.
+/// The server of requests, the pass that they show, and their deadline.
 #[derive(Clone, Copy, Debug)]
 pub struct Target {
     /// The time at which they are given up.

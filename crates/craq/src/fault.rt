@@ -14,7 +14,7 @@ pub const NO_CONNECTION: u8 = 4;
 /// The hint at a server that has as many connections as it may have.
 pub const MAYBE_FULL: &str = "; a server that is full (--most) closes each connection";
 
-/// Where a client's id was looked for.
+/// The place in which a client's id was looked for.
 #[derive(Clone, Copy, Debug, PartialEq, Eq)]
 pub enum IdSource {
     /// The variable `CRAQ_CLIENT`.

@@ -332,8 +332,8 @@ fn status_of(members: &[(NodeId, Seen)]) -> u8 {
     }
 }
 
-/// Times the update unless a member is stopped, behind which it would wait, and prints the rest of
-/// the outcomes of the members of the chain of this name. Returns the status.
+/// Times the update, unless a stopped member would hold it up. Then prints the other outcomes of the
+/// members of the chain of this name. Returns the status.
 fn finish<R>(
     rt: &R,
     link: &mut ServerLink<'_>,

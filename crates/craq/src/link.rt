@@ -46,7 +46,7 @@ impl<T: Drop> From<AllocFailed<T>> for Failure {
 /// A connection to the server, which is made again after a fault.
 #[derive(Drop)]
 pub struct ServerLink<'a> {
-    /// Where the server listens: a host and a port.
+    /// The address of the server: a host and a port.
     address: &'a str,
     /// The connection; `None` before the first request, and after a fault.
     stream: Option<TcpStream>,

@@ -43,7 +43,7 @@ history                                    the lines so far, by number
 help, quit                                 this text; the end
 ";
 
-/// Which standard streams are terminals.
+/// The standard streams that are terminals.
 #[derive(Clone, Copy)]
 pub struct Terminals {
     pub input: bool,
@@ -54,7 +54,7 @@ pub struct Terminals {
 /// An open prompt.
 #[derive(Drop)]
 struct OpenPrompt<'a> {
-    /// Who is asked, the pass, and the lines so far.
+    /// The node that is asked, the pass, and the lines so far.
     session: PromptState<'a>,
     /// The connection.
     link: ServerLink<'a>,
@@ -248,7 +248,7 @@ fn print_shown<R: Print + Eprint>(
     explain(rt, shown)
 }
 
-/// The word behind one of the prompt that stands alone.
+/// The error for a word behind a prompt command that takes none.
 const NO_MORE_WORDS: BadWord = BadWord {
     place: 1,
     expected: Expected::End,

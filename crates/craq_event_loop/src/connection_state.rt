@@ -200,7 +200,7 @@ pub(crate) enum Phase {
     Over(Ending),
 }
 
-/// Puts a phase where another was, which is dropped.
+/// Replaces a phase. The old one is dropped.
 fn put(place: &mut Phase, phase: Phase)
     ensures { place.new ≡ phase }
 {

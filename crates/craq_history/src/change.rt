@@ -1,5 +1,5 @@
 //! `Change`: the changes that a step makes to a node. The rules of `craq_read` and `craq_write`
-//! plan it, and `Node::apply` applies it.
+//! compute it, and `Node::apply` applies it.
 ghost use Rattle.std.specs.Prelude.{◌≡◌};
 
 use craq_commands::{Entry, State};
@@ -45,7 +45,7 @@ pub enum WaitingChange {
     AllAnswered,
 }
 
-/// The changes that a step makes to a node. They are planned first, and applied once nothing can
+/// The changes that a step makes to a node. They are computed first, and applied once nothing can
 /// refuse the step.
 #[derive(Debug, Drop)]
 pub struct Change {

@@ -1,5 +1,5 @@
-//! `Node::apply`, which applies a change to a node. `craq_node` calls it with the changes that
-//! rules plan.
+//! `Node::apply` applies a change to a node. `craq_node` calls it with the changes that rules
+//! compute.
 ghost use Rattle.std.specs.Prelude.{◌≡◌, ◌<◌, ◌-◌, ◌^◌, ◌++◌, ◌∷◌, [], true, IsOk, OnOk, OnErr, vec_len, vec_capacity};
 ghost use Rattle.craq_model.specs.Deliveries.{reads_without};
 ghost use Rattle.craq_history.specs.Change.{changed, no_change, past_by, gathering_by, IsGain, commits_by, updates_by, reads_by, epoch_by, members_by, floor_by, ticket_by};

@@ -2,7 +2,7 @@
 ghost use Rattle.std.specs.Prelude.{◌≡◌, ◌+◌, ◌<◌, ◌≤◌, ◌^◌};
 ghost use Rattle.craq_key_map.specs.Indexed.{bucket_of, goes};
 
-/// Which bucket a hash is in: linear hashing (Litwin, VLDB 1980).
+/// Finds the bucket of a hash, by linear hashing (Litwin, VLDB 1980).
 #[derive(Clone, Copy, Drop)]
 pub(crate) struct Layout {
     /// The number of buckets at the last doubling.

@@ -9,7 +9,7 @@ use std::sync::ArcSlice;
 /// The maximum number of bytes that are held in place.
 const SHORT: usize = 22;
 
-/// Where bytes stand.
+/// The storage of bytes.
 #[derive(Drop)]
 enum Place {
     /// In place: how many they are, and the bytes, zeros behind them.

@@ -1,6 +1,6 @@
-//! `NodeCore`: the `Core` of this crate, over any `History`. It admits an event, lets a rule plan a
-//! change, and applies the change. `craq_compact_history`, `craq_play` and `craq_explain` instantiate
-//! it with their pasts.
+//! `NodeCore`: the `Core` of this crate, over any `History`. It admits an event, lets a rule
+//! compute a change, and applies the change. `craq_compact_history`, `craq_play` and `craq_explain`
+//! instantiate it with their pasts.
 //!
 //! Each rule has its own function here, because a function pays at entry for all the space that it
 //! may need.
@@ -61,7 +61,7 @@ fn keep_limits(event: &Event)
     }
 }
 
-/// Applies a planned change, unless its sends do not fit into messages (`Exhausted`).
+/// Applies a computed change, unless its sends do not fit into messages (`Exhausted`).
 #[tactic(auto, using(crate::proofs::Stops::nothing_fits, crate::proofs::Remembered::made_given))]
 fn apply_change<H: History>(
     alloc: Global,
@@ -393,8 +393,8 @@ fn tick<H: History>(alloc: Global, node: &mut Node<H>) -> Result<Step, Refusal>
     apply_change(alloc, node, Change::none(), done(outs))
 }
 
-/// Dispatches an admitted event, other than a stop, at a running node: its rule plans the change,
-/// which is then applied.
+/// Dispatches an admitted event, other than a stop, at a running node: its rule computes the
+/// change, which is then applied.
 fn dispatch<H: History>(alloc: Global, node: &mut Node<H>, event: Event) -> Result<Step, Refusal>
     requires sound { IsSound (plain_of H.past node.old) }
     requires arrives { CanArrive event }
@@ -413,8 +413,8 @@ fn dispatch<H: History>(alloc: Global, node: &mut Node<H>, event: Event) -> Resu
     }
 }
 
-/// Handles an event as `dispatch` does. The node's invariant holds afterwards, and each out of the step
-/// has an encoding.
+/// Handles an event as `dispatch` does. The node's invariant holds afterwards, and each out of the
+/// step has an encoding.
 #[tactic(auto, using(crate::proofs::Kept::sound_after, crate::proofs::Kept::said_encodable))]
 fn apply_event<H: History>(alloc: Global, node: &mut Node<H>, event: Event) -> Result<Step, Refusal>
     requires sound { IsSound (plain_of H.past node.old) }
@@ -441,8 +441,8 @@ impl<H: History> NodeCore<H> {
         &self.node
     }
 
-    /// Makes the node before its first step. It begins ready if it has a membership, so if its epoch
-    /// is not 0.
+    /// Makes the node before its first step. It begins ready if it has a membership, so if its
+    /// epoch is not 0.
     #[tactic(auto, using(crate::proofs::Remembered::opening_seen))]
     fn unmoved(alloc: Global, name: NodeName, epoch: Epoch, members: Items<NodeId>) -> Self
         requires { IsSound (record (opening_member name members) { epoch = epoch; ready = not (epoch == 0) }) }

@@ -17,11 +17,11 @@ use craq_model::{Answer, Body, Out, Step, WaitingRead};
 use craq_names::{Copied, Key, Refusal, Ticket, Value, Version};
 use std::alloc::Global;
 
-/// Plans a read at a ready node that has a ticket left. Eventual: replies with the newest version
-/// held. Bounded: replies with the newest version held that is at most the bound above the clean
-/// one. Strong: replies at once if the object is clean; if it is dirty, the read waits and the last
-/// member is asked which version is committed (USENIX ATC 2009). Returns `PendingFull` if the read
-/// would have to wait and 1,024 requests wait. Otherwise fails only when out of memory.
+/// Computes a read at a ready node that has a ticket left. Eventual: replies with the newest
+/// version held. Bounded: replies with the newest version held that is at most the bound above the
+/// clean one. Strong: replies at once if the object is clean; if it is dirty, the read waits and
+/// the last member is asked which version is committed (USENIX ATC 2009). Returns `PendingFull` if
+/// the read would have to wait and 1,024 requests wait. Otherwise fails only when out of memory.
 #[tactic(auto, unfolding(craq_model::specs::Asks::read_transition, craq_model::specs::Plain::newest, craq_model::specs::Plain::clean, craq_model::specs::Plain::entries_after))]
 pub fn compute_read<H: History>(
     alloc: Global,
@@ -63,7 +63,7 @@ fn newest_if_clean<'a, H: History>(history: &'a H, key: &Key) -> Option<(Version
     }
 }
 
-/// Plans the reply to a read in the step of its request.
+/// Computes the reply to a read in the step of its request.
 fn answered(
     alloc: Global,
     last: Ticket,
@@ -87,7 +87,7 @@ fn answered(
     Ok((change, accepted(ticket, outs)))
 }
 
-/// Plans a read that waits for the last member's version.
+/// Computes a read that waits for the last member's version.
 #[tactic(auto, unfolding(craq_model::specs::Asks::waiting_read_transition, craq_model::specs::Asks::is_full))]
 fn waits<H: History>(alloc: Global, node: &Node<H>, key: &Key) -> Result<(Change, Step), Refusal>
     requires { node.now.last_ticket < 2 ^ 64 - 1 }

@@ -14,7 +14,7 @@ use craq_model::{Answer, Body, Out, Step, WaitingRead, Why};
 use craq_names::{Key, NodeId, Ticket, Value, Version};
 use std::alloc::{AllocError, Global};
 
-/// Plans the reply to another member's query which version of an object is committed. The tail
+/// Computes the reply to another member's query which version of an object is committed. The tail
 /// replies with its newest version, which is committed there (USENIX ATC 2009). Ignored if the
 /// sender is no other member (`NotNeighbour`) or this node is not the tail (`NotReadyHere`).
 #[tactic(auto, unfolding(craq_model::specs::Deliveries::query_transition, craq_model::specs::Plain::newest))]
@@ -56,7 +56,7 @@ fn waiting_read(reads: &[WaitingRead], ticket: Ticket) -> Option<&WaitingRead>
     None
 }
 
-/// Plans the delivery of a committed version from the tail. The read that waits for it gets that
+/// Computes the delivery of a committed version from the tail. The read that waits for it gets that
 /// version, or the clean one if that is later. Ignored if the sender is not the last member
 /// (`NotNeighbour`), if no read waits under the ticket (`UnknownTicket`), or if the version is
 /// above the newest held (`TooFar`).
@@ -80,7 +80,7 @@ pub fn compute_version<H: History>(
     reported(alloc, node, version, read)
 }
 
-/// Plans the reply to a waiting read, given a committed version.
+/// Computes the reply to a waiting read, given a committed version.
 #[tactic(auto, unfolding(craq_model::specs::Deliveries::reported_version_transition, craq_model::specs::Plain::newest, craq_model::specs::Plain::clean, craq_model::specs::Plain::entries_after))]
 fn reported<H: History>(
     alloc: Global,

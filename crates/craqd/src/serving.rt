@@ -266,7 +266,7 @@ const fn log_of(line: &Line<'_>) -> Log
     if line.log { Log::Lines } else { Log::Silent }
 }
 
-/// Returns the fate of receipts that a command line asks for: they are kept where journals are.
+/// Returns the receipt policy of a command line: receipts are kept if the store keeps journals.
 const fn policy_of(line: &Line<'_>) -> ReceiptPolicy
     ensures { result ≡ (if line.now.journal then ReceiptPolicy.KeepAll else ReceiptPolicy.KeepNone) }
 {

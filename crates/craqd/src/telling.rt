@@ -42,9 +42,9 @@ const fn has_end(line: &Line<'_>) -> bool
 /// The ports that a server listens on.
 #[derive(Clone, Copy, Debug)]
 pub struct Ports {
-    /// That of clients.
+    /// The port for clients.
     pub clients: u16,
-    /// That of the metrics, if they are served.
+    /// The port for the metrics, if they are served.
     pub metrics: Option<u16>,
 }
 

@@ -5,6 +5,7 @@ ghost use Rattle.std.specs.Prelude.{◌<◌};
 use crate::calling::{Asker, connection, exchange_over};
 use crate::deadline::{Deadline, MOST_SECONDS};
 use crate::fault::Fault;
+use crate::identity::nanoseconds;
 use crate::tally::Tally;
 use craq_cli::BenchLoad;
 use craq_commands::{Command, ReadMode, Reply, Update};
@@ -390,6 +391,8 @@ where
     R: Net<Listener = TcpListener, Stream = TcpStream> + Copy + Drop + Send + Sync + 'static,
 {
     let until = now(&rt)?.saturating_add(Duration::from_secs(load.load.seconds));
+    // The numbers of a run's puts are above these, and so above those of earlier runs, since a put
+    // takes longer than a nanosecond.
     let before = nanoseconds(&rt)?;
     thread::scope(thread::scope_env(), &rt, |scope| {
         for index in 0..load.load.connections {
@@ -413,19 +416,6 @@ where
         }
         Ok(())
     })
-}
-
-/// Returns the nanoseconds since 1970: the numbers of a run's puts are above these, and so above
-/// those of earlier runs, since a put takes longer than a nanosecond.
-fn nanoseconds<R: Clock>(rt: &R) -> Result<u64, Fault> {
-    match rt.since_1970() {
-        Ok(time) => Ok(
-            time.as_secs()
-                .wrapping_mul(1_000_000_000)
-                .wrapping_add(u64::from(time.subsec_nanos())),
-        ),
-        Err(_) => Err(Fault::System),
-    }
 }
 
 /// Puts a load on a node for a number of seconds, over a number of connections with one request

@@ -10,6 +10,6 @@ mod moving;
 mod nodes;
 
 pub use chain::ChainCore;
-pub use limits::keep_limits;
+pub use limits::{keep_ask_limits, keep_limits};
 pub use masters::{announce, compute_join, compute_removal};
 pub use messages::{message_after, sends_in};

@@ -16,7 +16,7 @@ fn keep_command_limits(command: &Command)
 }
 
 /// States that a request's transaction is within the limits that its type keeps. Does nothing.
-fn keep_ask_limits(ask: &Ask)
+pub fn keep_ask_limits(ask: &Ask)
     ensures { IsAskOfType ask.now }
 {
     if let Ask::Update(update) = ask {

@@ -2,6 +2,7 @@
 //! main of `craq`.
 use crate::address::{ADDRESS_FORM, is_address};
 use crate::commands::{is_command, task_of};
+use crate::flags::flag_arg;
 use crate::numbers::number_between;
 use crate::verb_options::{
     BadOption, CheckedOption, FLAGS, LOAD, VALUED, load_in, mode_in, number_in,
@@ -158,14 +159,6 @@ fn option_arg<'a>(alloc: Global, name: &'a str, value: &'a str, help: &'a str) -
         .long(name)
         .value_name(value)
         .action(ArgAction::Set)
-        .help(help)
-}
-
-/// Makes an option without a value.
-fn flag_arg<'a>(alloc: Global, name: &'a str, help: &'a str) -> Arg<'a> {
-    Arg::new(alloc, name)
-        .long(name)
-        .action(ArgAction::SetTrue)
         .help(help)
 }
 

@@ -1,9 +1,7 @@
 //! Reads the words of a line of `craqd --control`: its verb and its node, or the first wrong word;
 //! called by `craqd`.
-ghost use Rattle.std.specs.Prelude.{◌≡◌, ◌==◌, ◌<◌, ◌≤◌, ◌^◌, length, map, option_map, IfSome};
-ghost use Rattle.std.specs.List.{position};
+ghost use Rattle.std.specs.Prelude.{◌≡◌, ◌==◌, ◌<◌, ◌≤◌, ◌^◌, length, map, IfSome};
 ghost use Rattle.craq_script.specs.Reading.{ParsesTo};
-ghost use Rattle.craq_script.specs.Words.{cut_at};
 ghost use Rattle.craq_cli.specs.Commands.{Reads, word_at};
 ghost use Rattle.craq_cli.specs.Control.{verb_of, forced, stop_of, remove_of, join_of, control_line};
 ghost use Rattle.craq_cli.specs.ControlNode.{index_from, chain_of, node_of};
@@ -12,7 +10,7 @@ use crate::numbers::number_between;
 use crate::words::{at_end, bad, bytes_at};
 use crate::{Expected, UsageError};
 use craq_names::{ChainId, NodeId, NodeName};
-use craq_script::{GREATEST_NODE, ParseError, number_up_to};
+use craq_script::{GREATEST_NODE, ParseError, cut, number_up_to};
 
 /// The greatest id of a chain: the greatest number of 16 bits.
 const GREATEST_CHAIN: u64 = 65_535;
@@ -79,23 +77,6 @@ fn verb_at(words: &[&str]) -> Result<ControlVerb, UsageError>
     match verb_of(word) {
         Some(verb) => Ok(verb),
         None => Err(bad(0, Expected::ControlVerb)),
-    }
-}
-
-/// Returns the index of the first `at` in the text.
-fn place_of(text: &[u8], at: u8) -> Option<usize>
-    ensures { result ≡ position (λ x. x == at) text.now }
-{
-    text.iter().position(|c| *c == at)
-}
-
-/// Splits the text at the first `at`: the bytes before it and after it. `None` if there is no `at`.
-fn cut(text: &[u8], at: u8) -> Option<(&[u8], &[u8])>
-    ensures { option_map (λ x. (x.0.now, x.1.now)) result ≡ cut_at at text.now }
-{
-    match place_of(text, at) {
-        Some(place) => Some((&text[..place], &text[place + 1..])),
-        None => None,
     }
 }
 

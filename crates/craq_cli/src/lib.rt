@@ -8,6 +8,7 @@ mod client;
 mod commands;
 mod control;
 mod expected;
+mod flags;
 mod numbers;
 mod options;
 mod program;

@@ -3,6 +3,7 @@ ghost use Rattle.std.specs.Prelude.{IfOk};
 ghost use Rattle.craq_cli.specs.Lines.{IsServable};
 
 use crate::VERSION;
+use crate::flags::flag_arg;
 use crate::options::{NumberOption, Unfit, numbers_of};
 use clap::error::ErrorKind;
 use clap::{Arg, ArgAction, ArgMatches, Command, Error};
@@ -92,14 +93,6 @@ memory`; 4 with `cannot listen`; 5 with `audit refused N`.
 Example:
   craqd plan.toml 127.0.0.1:7000
   craqd --journal --connections 3 plan.toml 127.0.0.1:0";
-
-/// Makes an option without a value.
-fn flag_arg<'a>(alloc: Global, name: &'a str, help: &'a str) -> Arg<'a> {
-    Arg::new(alloc, name)
-        .long(name)
-        .action(ArgAction::SetTrue)
-        .help(help)
-}
 
 /// Makes an option with a number, 0 by default.
 fn number_arg<'a>(alloc: Global, option: NumberOption) -> Arg<'a> {

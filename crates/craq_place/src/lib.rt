@@ -7,3 +7,4 @@ mod reading;
 
 pub use craq_epochs::MOST_CHAINS;
 pub use plan::Plan;
+pub use reading::is_chain_name;

@@ -31,8 +31,8 @@ fn are_of_names(bytes: &[u8]) -> bool
     bytes.iter().all(|byte| is_of_names(*byte))
 }
 
-/// Returns true if the text is a name.
-fn test_name(name: &str) -> bool
+/// Returns true if the text is a chain's name: 1 to 32 letters, digits, `_` and `-`.
+pub fn is_chain_name(name: &str) -> bool
     ensures { result ≡ is_name name.now }
 {
     name.len() >= 1 && name.len() <= MOST_NAME && are_of_names(name.as_bytes())
@@ -44,7 +44,7 @@ fn read_name(alloc: Global, value: &Value) -> Result<String, Refusal>
 {
     match value.as_str() {
         Some(name) => {
-            if test_name(name) {
+            if is_chain_name(name) {
                 Ok(String::from_str(alloc, name)?)
             } else {
                 Err(Refusal::BadConfig)

@@ -24,7 +24,7 @@ fn place_of(text: &[u8], at: u8) -> Option<usize>
 }
 
 /// Splits the text at the first `at`: the bytes before it and after it. `None` if there is no `at`.
-fn cut(text: &[u8], at: u8) -> Option<(&[u8], &[u8])>
+pub fn cut(text: &[u8], at: u8) -> Option<(&[u8], &[u8])>
     ensures { option_map (λ x. (x.0.now, x.1.now)) result ≡ cut_at at text.now }
 {
     match place_of(text, at) {

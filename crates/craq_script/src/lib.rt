@@ -15,7 +15,9 @@ mod text;
 mod words;
 
 pub use asking::{asked_update, read_of};
-pub use encoding::{GREATEST_NODE, item_of, mode_of, number_up_to, script_object, script_value};
+pub use encoding::{
+    GREATEST_NODE, cut, item_of, mode_of, number_up_to, script_object, script_value,
+};
 pub use line::{MiniItem, ScriptCommand, ScriptLine, ScriptObject, UpdateLine};
 pub use parse_error::ParseError;
 pub use printing::{print_answer, print_refusal, print_reply};

@@ -1,17 +1,10 @@
 //! Names the rule of a plan that a text breaks, for the line behind `plan refused`; called by
 //! `plans`.
-ghost use Rattle.std.specs.Prelude.{◌≡◌};
-ghost use Rattle.std.specs.List.{list_all};
-ghost use Rattle.craq_place.specs.Plan.{is_name, is_name_byte};
-
-use craq_place::MOST_CHAINS;
+use craq_place::{MOST_CHAINS, is_chain_name};
 use std::alloc::{AllocError, Global};
 use std::fmt;
 use std::str::from_utf8;
 use toml::{Table, Value};
-
-/// The most bytes of a name.
-const MOST_NAME: usize = 32;
 
 /// The most nodes of a chain.
 const MOST_NODES: usize = 8;
@@ -93,31 +86,6 @@ impl fmt::Display for PlanFault<'_> {
     }
 }
 
-/// Returns true if the byte is a letter, a digit, `_` or `-`.
-fn is_of_names(byte: u8) -> bool
-    ensures { result ≡ is_name_byte byte }
-{
-    (97 <= byte && byte <= 122)
-        || (65 <= byte && byte <= 90)
-        || (48 <= byte && byte <= 57)
-        || byte == 95
-        || byte == 45
-}
-
-/// Returns true if each byte may occur in a name.
-fn are_of_names(bytes: &[u8]) -> bool
-    ensures { result ≡ list_all is_name_byte bytes.now }
-{
-    bytes.iter().all(|byte| is_of_names(*byte))
-}
-
-/// Returns true if the text is a name.
-fn test_name(name: &str) -> bool
-    ensures { result ≡ is_name name.now }
-{
-    name.len() >= 1 && name.len() <= MOST_NAME && are_of_names(name.as_bytes())
-}
-
 /// Returns the value of a key.
 fn value_of<'t>(table: &'t Table, wanted: &str) -> Option<&'t Value> {
     for (key, value) in table.iter() {
@@ -182,7 +150,7 @@ fn table_fault(table: &Table) -> Option<ChainFault<'_>> {
     let Some(name) = name.as_str() else {
         return Some(ChainFault::BadName);
     };
-    if !test_name(name) {
+    if !is_chain_name(name) {
         return Some(ChainFault::BadName);
     }
     let Some(nodes) = value_of(table, "nodes") else {

@@ -11,7 +11,7 @@ programs that are built without their proofs (tools/unproved.py), each once: eac
 the program of docs/use/EMBEDDING.md, worked scripts and schedules on craq_lab, the server and its
 command from end to end, a server of changed sources whose audits do not fit, the commands of the
 pages, and the programs of benchmarks/. The tests on threads make fewer calls here. It proves
-nothing: no contract, no wrong body. What is right here and not proved is found by ./test alone. The
+nothing: no contract, no mutant. What is right here and not proved is found by ./test alone. The
 programs have the tests that `rt try` puts in, as of an index out of bounds, and no checks of
 addresses. That ./serve and ./play build a program where none is, is not tried. The last line is 'N
 passed, M failed; proves nothing'. On a terminal a line on standard error tells how far it is.

@@ -405,7 +405,7 @@ def plant(checks, clone):
     checks.same("a crate that there is not", clone.ran("plant", "no_such_crate")[0], 2)
     clone.words()
     status, out, _ = clone.ran("plant", "--help")
-    checks.that(status == 0 and out.startswith("Tries wrong bodies") and clone.words() == [],
+    checks.that(status == 0 and out.startswith("Tries mutants") and clone.words() == [],
                 f"its help: {status} {out}")
 
 

@@ -18,24 +18,7 @@ use Rattle.craq_node_invariant.proofs.Settling.{IsSoundTransition, ignoring, upd
 heard_is : (p : Plain) (position : ℕ) → IsSound p → p.ready ≡ true → p.past.acknowledged < position → position ≤ length_of p
     → IsSound (record (acknowledging p position) { waiting_updates = later_updates position p.waiting_updates })
 unfolding later_updates
-heard_is p position s r above below = record {
-  own = s.own;
-  ids = s.ids;
-  unknown = s.unknown;
-  known = s.known;
-  in_epoch = s.in_epoch;
-  idle_updates = λ e. absurd (cc);
-  idle_reads = s.idle_reads;
-  based = omega (arith, s.based, above);
-  within = below;
-  state = s.state;
-  entries = s.entries;
-  placed = s.placed;
-  applicable = s.applicable;
-  gathering = s.gathering;
-  replies = all_filter (λ (u : WaitingUpdate). IsReply u.reply) (λ (u : WaitingUpdate). nat_lt position u.position) p.waiting_updates s.replies;
-  tickets = s.tickets;
-}
+heard_is p position s r above below = grind (arith, all_filter (λ (u : WaitingUpdate). IsReply u.reply) (λ (u : WaitingUpdate). nat_lt position u.position) p.waiting_updates s.replies)
 
 acknowledgement_is : (p : Plain) (position : ℕ) → IsSound p → Speaks p → p.ready ≡ true → p.past.acknowledged < position → position ≤ length_of p → IsSoundTransition (acknowledgement_transition p position)
 unfolding acknowledgement_transition pending_updates

@@ -30,24 +30,7 @@ use Rattle.craq_node_invariant.proofs.Updates.{IsSoundIfTaken, accepted_is, said
 -- ---- reads
 
 waits : (p : Plain) (r : WaitingRead) → IsSound p → p.ready ≡ true → 1 ≤ r.ticket → IsSound (record p { waiting_reads = p.waiting_reads ++ r ∷ [] })
-waits p r s ready h = record {
-  own = s.own;
-  ids = s.ids;
-  unknown = s.unknown;
-  known = s.known;
-  in_epoch = s.in_epoch;
-  idle_updates = s.idle_updates;
-  idle_reads = λ e. absurd (cc);
-  based = s.based;
-  within = s.within;
-  state = s.state;
-  entries = s.entries;
-  placed = s.placed;
-  applicable = s.applicable;
-  gathering = s.gathering;
-  replies = s.replies;
-  tickets = all_append (λ (r : WaitingRead). 1 ≤ r.ticket) p.waiting_reads (r ∷ []) s.tickets (h, tt);
-}
+waits p r s ready h = grind (arith, all_append (λ (r : WaitingRead). 1 ≤ r.ticket) p.waiting_reads (r ∷ []) s.tickets (h, tt))
 
 waiting_is : (p : Plain) (key : List ℕ) → IsSound p → p.ready ≡ true → IsSoundIfTaken (waiting_read_transition p key)
 unfolding waiting_read_transition

@@ -17,24 +17,13 @@ unfolding clean
 compacted_is p s =
     let m : ℕ = p.past.acknowledged - p.past.base in
     let P : ℕ → Type 0 = λ n. AreInRow n (drop m p.past.entries) in
-    record {
-      own = s.own;
-      ids = s.ids;
-      unknown = s.unknown;
-      known = s.known;
-      in_epoch = s.in_epoch;
-      idle_updates = s.idle_updates;
-      idle_reads = s.idle_reads;
-      based = omega arith;
-      within = omega arith;
-      state = clean_is p s;
-      entries = all_drop IsEncodableEntry m p.past.entries s.entries;
-      placed = subst P (next_after p.past.base p.past.acknowledged s.based) (row_drop (p.past.base + 1) m p.past.entries s.placed);
-      applicable = applicable_drop p.past.base_state m p.past.entries s.applicable;
-      gathering = s.gathering;
-      replies = s.replies;
-      tickets = s.tickets;
-    }
+    grind (
+      arith,
+      clean_is p s,
+      all_drop IsEncodableEntry m p.past.entries s.entries,
+      subst P (next_after p.past.base p.past.acknowledged s.based) (row_drop (p.past.base + 1) m p.past.entries s.placed),
+      applicable_drop p.past.base_state m p.past.entries s.applicable,
+    )
 
 pub remembered_is : (forgets : Bool) (p : Plain) → IsSound p → IsSound (remembered forgets p)
 remembered_is true p s = compacted_is p s

@@ -12,24 +12,7 @@ use Rattle.craq_node_invariant.specs.Sound.{IsSound}
 use Rattle.craq_node_invariant.proofs.Settling.{IsSoundTransition, ignoring, settling_is}
 
 adopted_is : (p : Plain) (epoch : ℕ) (members : List ℕ) → IsSound p → 1 ≤ epoch → IsMembership members → IsSound (record p { epoch = epoch; members = members; floor = None; gathering = None })
-adopted_is p epoch members s h m = record {
-  own = s.own;
-  ids = all_like (λ (id : ℕ). (1 ≤ id) × (id ≤ greatest_count)) (λ (id : ℕ). 1 ≤ id) members (λ id a. a.0) m.ids;
-  unknown = λ e. absurd (omega (arith, h, e));
-  known = λ e. m.some;
-  in_epoch = λ e. h;
-  idle_updates = s.idle_updates;
-  idle_reads = s.idle_reads;
-  based = s.based;
-  within = s.within;
-  state = s.state;
-  entries = s.entries;
-  placed = s.placed;
-  applicable = s.applicable;
-  gathering = tt;
-  replies = s.replies;
-  tickets = s.tickets;
-}
+adopted_is p epoch members s h m = grind (arith, all_like (λ (id : ℕ). (1 ≤ id) × (id ≤ greatest_count)) (λ (id : ℕ). 1 ≤ id) members (λ id a. a.0) m.ids)
 
 pub config_is : (p : Plain) (epoch : ℕ) (members : List ℕ) → IsSound p → 1 ≤ epoch → IsMembership members → IsSoundTransition (config_transition p epoch members)
 unfolding config_transition

@@ -1,5 +1,5 @@
 -- A sound node sends its successor a state and entries, or receives them itself.
-use Rattle.std.proofs.Common.{◌≤◌, ℕ, nat_le, nat_lt, max, not, Bool, ◌==◌, ◌||◌, cond, List, [], Option, Some, None, is_some, refl, arith}
+use Rattle.std.proofs.Common.{◌≤◌, ℕ, nat_le, nat_lt, max, not, Bool, ◌==◌, ◌||◌, cond, List, [], Option, Some, None, is_some, arith}
 use Rattle.std.proofs.lemmas.Bool.{cond_both, ltb-true, not-false}
 use Rattle.std.specs.List.{AllByRecursion}
 use Rattle.craq_commands.specs.declared.state.State.{State}
@@ -42,24 +42,7 @@ blank_is p sender count s w from =
     (λ b. (s, all_sent p sender (fill_bodies p count) w from (fill_sayable p count s))))
 
 with_copy_is : (p : Plain) (position : ℕ) (state : State) → IsSound p → IsSoundState state → IsSound (with_copy p position state)
-with_copy_is p position state s h = record {
-  own = s.own;
-  ids = s.ids;
-  unknown = s.unknown;
-  known = s.known;
-  in_epoch = s.in_epoch;
-  idle_updates = s.idle_updates;
-  idle_reads = s.idle_reads;
-  based = omega arith;
-  within = omega arith;
-  state = h;
-  entries = tt;
-  placed = tt;
-  applicable = refl;
-  gathering = s.gathering;
-  replies = s.replies;
-  tickets = s.tickets;
-}
+with_copy_is p position state s h = grind arith
 
 pub copy_is : (p : Plain) (sender position : ℕ) (state : State) → IsSound p → Speaks p → IsSoundState state → IsSoundTransition (copy_transition p sender position state)
 unfolding copy_transition
@@ -72,26 +55,6 @@ copy_is p sender position state s w h =
     (λ b. ignoring p AlreadyHave s)
     (λ b. readiness_is (with_copy p position state) (with_copy_is p position state s h) w.1))
 
-with_floor_is : (p : Plain) (count : ℕ) → IsSound p → IsSound (record p { floor = Some count })
-with_floor_is p count s = record {
-  own = s.own;
-  ids = s.ids;
-  unknown = s.unknown;
-  known = s.known;
-  in_epoch = s.in_epoch;
-  idle_updates = s.idle_updates;
-  idle_reads = s.idle_reads;
-  based = s.based;
-  within = s.within;
-  state = s.state;
-  entries = s.entries;
-  placed = s.placed;
-  applicable = s.applicable;
-  gathering = s.gathering;
-  replies = s.replies;
-  tickets = s.tickets;
-}
-
 pub floor_is : (p : Plain) (sender count : ℕ) → IsSound p → Speaks p → IsSoundTransition (floor_transition p sender count)
 unfolding floor_transition
 floor_is p sender count s w =
@@ -100,29 +63,9 @@ floor_is p sender count s w =
     (λ a. ignoring p NotNeighbour s)
     (λ a. cond_both p.ready (transition_ignoring p AlreadyHave) last (λ (t : Transition). IsSoundTransition t)
     (λ b. ignoring p AlreadyHave s)
-    (λ b. readiness_is (record p { floor = Some count }) (with_floor_is p count s) w.1))
+    (λ b. readiness_is (record p { floor = Some count }) (assumption) w.1))
 
 -- ---- parts
-
-with_gathering_is : (p : Plain) (g : Gathering) → IsSound p → IsSoundGathering g → IsSound (record p { gathering = Some g })
-with_gathering_is p g s h = record {
-  own = s.own;
-  ids = s.ids;
-  unknown = s.unknown;
-  known = s.known;
-  in_epoch = s.in_epoch;
-  idle_updates = s.idle_updates;
-  idle_reads = s.idle_reads;
-  based = s.based;
-  within = s.within;
-  state = s.state;
-  entries = s.entries;
-  placed = s.placed;
-  applicable = s.applicable;
-  gathering = h;
-  replies = s.replies;
-  tickets = s.tickets;
-}
 
 new_is : (part : StatePart) → IsSoundGathering (new_gathering part)
 unfolding joined_state
@@ -136,7 +79,7 @@ gathered_transition_is : (p : Plain) (g : Gathering) → IsSound p → Speaks p 
 gathered_transition_is p g s w h =
     cond_both (is_whole g) (readiness_transition (with_copy p g.position (joined_state g.parts))) (transition_with (record p { gathering = Some g }) []) (λ (t : Transition). IsSoundTransition t)
     (λ e. readiness_is (with_copy p g.position (joined_state g.parts)) (with_copy_is p g.position (joined_state g.parts) s h.state) w.1)
-    (λ e. (with_gathering_is p g s h, tt))
+    (λ e. (assumption, tt))
 
 gathering_is : (p : Plain) (g : Gathering) (part : StatePart) → IsSound p → Speaks p → IsSoundGathering g → IsSoundState part.state → IsSoundTransition (gathering_transition p g part)
 gathering_is p g part s w h i =

@@ -28,24 +28,13 @@ next_place base count = omega arith
 -- the node with entries appended that follow its own
 pub with_entries_is : (p : Plain) (es : List Entry) → IsSound p → AreEncodableEntries es → AreInRow (length_of p + 1) es → are_applicable (newest p) es ≡ true → IsSound (with_entries p es)
 unfolding newest
-with_entries_is p es s h r f = record {
-  own = s.own;
-  ids = s.ids;
-  unknown = s.unknown;
-  known = s.known;
-  in_epoch = s.in_epoch;
-  idle_updates = s.idle_updates;
-  idle_reads = s.idle_reads;
-  based = s.based;
-  within = omega (arith, s.within, length-append p.past.entries es);
-  state = s.state;
-  entries = all_append IsEncodableEntry p.past.entries es s.entries h;
-  placed = row_append (p.past.base + 1) p.past.entries es s.placed (subst (λ (n : ℕ). AreInRow n es) (next_place p.past.base (length p.past.entries)) r);
-  applicable = applicable_append p.past.base_state p.past.entries es s.applicable f;
-  gathering = s.gathering;
-  replies = s.replies;
-  tickets = s.tickets;
-}
+with_entries_is p es s h r f = grind (
+  arith,
+  length-append p.past.entries es,
+  all_append IsEncodableEntry p.past.entries es s.entries h,
+  row_append (p.past.base + 1) p.past.entries es s.placed (subst (λ (n : ℕ). AreInRow n es) (next_place p.past.base (length p.past.entries)) r),
+  applicable_append p.past.base_state p.past.entries es s.applicable f,
+)
 
 -- consecutive entries are sent to the successor
 pub entries_sent : (p : Plain) (es : List Entry) (n : ℕ) → IsSound p → Speaks p → AreEncodableEntries es → AreInRow n es → AreEncodableIfFitting (to_neighbour (successor p) (λ to. send_all p to (entry_bodies es)))

@@ -1,5 +1,5 @@
 -- A sound node replies to a version query, or learns a version.
-use Rattle.std.proofs.Common.{◌≤◌, ℕ, ◌==◌, nat_lt, not, ◌||◌, cond, List, [], ◌∷◌, Option, Some, None, ap}
+use Rattle.std.proofs.Common.{◌≤◌, ℕ, ◌==◌, nat_lt, not, ◌||◌, cond, List, [], ◌∷◌, Option, Some, None, arith}
 use Rattle.std.proofs.lemmas.Bool.{cond_both}
 use Rattle.craq_names.proofs.Lists.{all_filter}
 use Rattle.craq_model.specs.declared.message.Body.TheVariants as bodies
@@ -29,24 +29,7 @@ query_is p sender ticket key s w from t =
 
 answered_is : (p : Plain) (ticket : ℕ) → IsSound p → IsSound (record p { waiting_reads = reads_without ticket p.waiting_reads })
 unfolding reads_without
-answered_is p ticket s = record {
-  own = s.own;
-  ids = s.ids;
-  unknown = s.unknown;
-  known = s.known;
-  in_epoch = s.in_epoch;
-  idle_updates = s.idle_updates;
-  idle_reads = λ e. ap (reads_without ticket) (s.idle_reads e);
-  based = s.based;
-  within = s.within;
-  state = s.state;
-  entries = s.entries;
-  placed = s.placed;
-  applicable = s.applicable;
-  gathering = s.gathering;
-  replies = s.replies;
-  tickets = all_filter (λ (r : WaitingRead). 1 ≤ r.ticket) (λ (r : WaitingRead). not (r.ticket == ticket)) p.waiting_reads s.tickets;
-}
+answered_is p ticket s = grind (arith, all_filter (λ (r : WaitingRead). 1 ≤ r.ticket) (λ (r : WaitingRead). not (r.ticket == ticket)) p.waiting_reads s.tickets)
 
 reported_is : (p : Plain) (version : ℕ) (o : Option WaitingRead) → IsSound p → IsSoundTransition (reported_version_transition p version o)
 unfolding reported_version_transition

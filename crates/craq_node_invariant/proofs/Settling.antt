@@ -1,5 +1,5 @@
 -- A sound node that adopts a membership, or becomes ready, stays sound.
-use Rattle.std.proofs.Common.{◌≤◌, true, not, ◌&&◌, nat_lt, nat_le, None, List, [], ◌∷◌, ◌++◌, map, refl, arith}
+use Rattle.std.proofs.Common.{◌≤◌, true, not, ◌&&◌, nat_lt, nat_le, None, List, [], ◌∷◌, ◌++◌, map, arith}
 use Rattle.std.proofs.lemmas.Bool.{cond_both}
 use Rattle.std.specs.List.{AllByRecursion}
 use Rattle.craq_names.proofs.Lists.{all_append, all_map, all_each}
@@ -57,94 +57,20 @@ answers_encodable (g ∷ gs) a = (λ f. a.0, answers_encodable gs a.1)
 -- ---- the node
 
 pub committed_is : (p : Plain) → IsSound p → IsSound (acknowledging p (length_of p))
-committed_is p s = record {
-  own = s.own;
-  ids = s.ids;
-  unknown = s.unknown;
-  known = s.known;
-  in_epoch = s.in_epoch;
-  idle_updates = s.idle_updates;
-  idle_reads = s.idle_reads;
-  based = omega arith;
-  within = omega arith;
-  state = s.state;
-  entries = s.entries;
-  placed = s.placed;
-  applicable = s.applicable;
-  gathering = s.gathering;
-  replies = s.replies;
-  tickets = s.tickets;
-}
-
-all_committed_is : (p : Plain) → IsSound p → IsSound (all_committed p)
-all_committed_is p s = record {
-  own = s.own;
-  ids = s.ids;
-  unknown = s.unknown;
-  known = s.known;
-  in_epoch = s.in_epoch;
-  idle_updates = λ e. refl;
-  idle_reads = λ e. refl;
-  based = omega arith;
-  within = omega arith;
-  state = s.state;
-  entries = s.entries;
-  placed = s.placed;
-  applicable = s.applicable;
-  gathering = s.gathering;
-  replies = tt;
-  tickets = tt;
-}
+committed_is p s = grind arith
 
 pub settling_is : (p : Plain) → IsSound p → IsSoundTransition (settling_transition p)
 unfolding settling_transition
 settling_is p s =
     let q : Plain = all_committed p in
-    let t : IsSound q = all_committed_is p s in
+    let t : IsSound q = grind arith in
     cond_both (is_tail p) (transition_with q (answer_outs (all_given p) ++ tick_sends q)) (transition_with p (tick_sends p)) (λ (t : Transition). IsSoundTransition t)
     (λ e. (t, all_append IsEncodableIfFitting (answer_outs (all_given p)) (tick_sends q) (answers_encodable (all_given p) (all_are_given p s)) (tick_sent q t)))
     (λ e. (s, tick_sent p s))
 
-ready_is : (p : Plain) → IsSound p → 1 ≤ p.epoch → IsSound (record p { ready = true; gathering = None })
-ready_is p s h = record {
-  own = s.own;
-  ids = s.ids;
-  unknown = s.unknown;
-  known = s.known;
-  in_epoch = λ e. h;
-  idle_updates = λ e. absurd (cc);
-  idle_reads = λ e. absurd (cc);
-  based = s.based;
-  within = s.within;
-  state = s.state;
-  entries = s.entries;
-  placed = s.placed;
-  applicable = s.applicable;
-  gathering = tt;
-  replies = s.replies;
-  tickets = s.tickets;
-}
-
 -- the node without its gathered parts
 pub dropped_is : (p : Plain) → IsSound p → IsSound (record p { gathering = None })
-dropped_is p s = record {
-  own = s.own;
-  ids = s.ids;
-  unknown = s.unknown;
-  known = s.known;
-  in_epoch = s.in_epoch;
-  idle_updates = s.idle_updates;
-  idle_reads = s.idle_reads;
-  based = s.based;
-  within = s.within;
-  state = s.state;
-  entries = s.entries;
-  placed = s.placed;
-  applicable = s.applicable;
-  gathering = tt;
-  replies = s.replies;
-  tickets = s.tickets;
-}
+dropped_is p s = assumption
 
 without_reached_is : (p : Plain) → IsSound p → IsSound (without_reached p)
 unfolding without_reached
@@ -156,5 +82,5 @@ pub readiness_is : (p : Plain) → IsSound p → 1 ≤ p.epoch → IsSoundTransi
 unfolding readiness_transition
 readiness_is p s h =
     cond_both (not p.ready && is_reached p.floor (length_of p)) (settling_transition (record p { ready = true; gathering = None })) (transition_with (without_reached p) []) (λ (t : Transition). IsSoundTransition t)
-    (λ e. settling_is (record p { ready = true; gathering = None }) (ready_is p s h))
+    (λ e. settling_is (record p { ready = true; gathering = None }) (grind arith))
     (λ e. (without_reached_is p s, tt))

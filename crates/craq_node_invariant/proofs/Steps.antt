@@ -1,11 +1,10 @@
 -- Each step keeps a node sound, and its outs have an encoding.
-use Rattle.std.proofs.Common.{◌≡◌, ◌≤◌, ◌==◌, nat_le, true, false, ◌+◌, cond, List, [], ◌∷◌, count_by, Result, Ok, Err, subst, arith}
+use Rattle.std.proofs.Common.{◌≡◌, ◌≤◌, ◌==◌, nat_le, true, ◌+◌, cond, List, [], ◌∷◌, count_by, Result, Ok, Err, subst, arith}
 use Rattle.std.proofs.lemmas.Bool.{cond_both, and_parts, eqb-true}
 use Rattle.std.specs.List.{list_all}
 use Rattle.craq_names.specs.Limits.{greatest_count}
 use Rattle.craq_names.specs.declared.refusal.Refusal.{Refusal}
 use Rattle.craq_names.specs.declared.refusal.Refusal.TheVariants as refusals
-use Rattle.craq_commands.specs.declared.state.State.{State}
 use Rattle.craq_model.specs.declared.ask.Event.{Event}
 use Rattle.craq_model.specs.declared.ask.Event.TheVariants as events
 use Rattle.craq_model.specs.declared.message.Body.{Body}
@@ -18,8 +17,8 @@ use Rattle.craq_model.specs.Deliveries.{body_transition, delivery_transition, tr
 use Rattle.craq_model.specs.Node.{is_for, event_transition, is_send, out_fits, outs_fit, within_counts, node_step}
 use Rattle.craq_model.specs.Plain.{Plain}
 use Rattle.craq_model.specs.Settle.{Transition, transition_ignoring}
-use Rattle.craq_model.specs.Encodable.{IsEncodableBody, IsEncodableState, IsFromItsSender}
-use Rattle.craq_node_invariant.specs.Sound.{IsSoundState, IsSound, AreEncodable, IsEncodableEvent}
+use Rattle.craq_model.specs.Encodable.{IsEncodableBody, IsFromItsSender}
+use Rattle.craq_node_invariant.specs.Sound.{IsSound, AreEncodable, IsEncodableEvent}
 use Rattle.craq_node_invariant.proofs.Acks.{ack_is}
 use Rattle.craq_node_invariant.proofs.Asks.{ask_is}
 use Rattle.craq_node_invariant.proofs.Configs.{config_is}
@@ -39,43 +38,20 @@ in_epoch p m transition s h f =
     (λ e. let same : m.epoch ≡ p.epoch = eqb-true m.epoch p.epoch e in f (s.own, omega (arith, same, h)))
     (λ e. ignoring p OtherEpoch s)
 
-state_is : (s : State) → IsEncodableState s → IsSoundState s
-state_is s h = record { versions = h.versions; windows = h.windows; keys_rise = h.keys_rise; clients_rise = h.clients_rise }
-
 body_is : (p : Plain) (m : LinkMessage) (b : Body) → IsSound p → 1 ≤ m.epoch → IsFromItsSender m.sender b → IsEncodableBody b → IsSoundTransition (body_transition p m b)
 body_is p m (bodies.Config members) s h from b = config_is p m.epoch members s h b
 body_is p m (bodies.Entry e) s h from b = in_epoch p m (entries_transition p m.sender (e ∷ [])) s h (λ w. entries_are p m.sender (e ∷ []) s w (b, tt) tt)
 body_is p m (bodies.Batch es) s h from b = in_epoch p m (entries_transition p m.sender es) s h (λ w. entries_are p m.sender es s w b.entries b.consecutive)
-body_is p m (bodies.Part part) s h from b = in_epoch p m (part_transition p m.sender part) s h (λ w. part_is p m.sender part s w (state_is part.state b.state))
+body_is p m (bodies.Part part) s h from b = in_epoch p m (part_transition p m.sender part) s h (λ w. part_is p m.sender part s w (assumption))
 body_is p m (bodies.Ack position) s h from b = in_epoch p m (ack_transition p m.sender position) s h (λ w. ack_is p m.sender position s w)
 body_is p m (bodies.Query ticket key) s h from b = in_epoch p m (query_transition p m.sender ticket key) s h (λ w. query_is p m.sender ticket key s w from b)
 body_is p m (bodies.VersionIs ticket version) s h from b = in_epoch p m (version_transition p m.sender ticket version) s h (λ w. version_is p m.sender ticket version s)
 body_is p m (bodies.Blank count) s h from b = in_epoch p m (blank_transition p m.sender count) s h (λ w. blank_is p m.sender count s w from)
 body_is p m (bodies.Copy position state) s h from b =
-    in_epoch p m (copy_transition p m.sender position state) s h (λ w. copy_is p m.sender position state s w (state_is state b.1))
+    in_epoch p m (copy_transition p m.sender position state) s h (λ w. copy_is p m.sender position state s w (assumption))
 body_is p m (bodies.Floor count) s h from b = in_epoch p m (floor_transition p m.sender count) s h (λ w. floor_is p m.sender count s w)
 
 -- ---- events
-
-stopped_is : (p : Plain) → IsSound p → IsSound (record p { running = false })
-stopped_is p s = record {
-  own = s.own;
-  ids = s.ids;
-  unknown = s.unknown;
-  known = s.known;
-  in_epoch = s.in_epoch;
-  idle_updates = s.idle_updates;
-  idle_reads = s.idle_reads;
-  based = s.based;
-  within = s.within;
-  state = s.state;
-  entries = s.entries;
-  placed = s.placed;
-  applicable = s.applicable;
-  gathering = s.gathering;
-  replies = s.replies;
-  tickets = s.tickets;
-}
 
 event_is : (p : Plain) (e : Event) → IsSound p → IsEncodableEvent e → IsSoundIfTaken (event_transition p e)
 event_is p (events.Ask ask) s h = ask_is p ask s h
@@ -84,7 +60,7 @@ event_is p (events.Deliver m) s h =
     (λ e. body_is p m m.body s h.epoch h.sender h.body)
     (λ e. tt)
 event_is p events.Tick s h = (s, tick_sent p s)
-event_is p events.Stop s h = (stopped_is p s, tt)
+event_is p events.Stop s h = (assumption, tt)
 
 -- ---- the counts fit
 

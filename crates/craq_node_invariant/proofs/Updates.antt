@@ -44,47 +44,10 @@ IsSoundIfTaken (Ok t) = IsSoundTransition t
 IsSoundIfTaken (Err e) = Unit {0}
 
 pub accepted_is : (p : Plain) (os : List Out) → IsSound p → AreEncodableIfFitting os → IsSoundTransition (accepted_transition p os)
-accepted_is p os s a = (
-  record {
-    own = s.own;
-    ids = s.ids;
-    unknown = s.unknown;
-    known = s.known;
-    in_epoch = s.in_epoch;
-    idle_updates = s.idle_updates;
-    idle_reads = s.idle_reads;
-    based = s.based;
-    within = s.within;
-    state = s.state;
-    entries = s.entries;
-    placed = s.placed;
-    applicable = s.applicable;
-    gathering = s.gathering;
-    replies = s.replies;
-    tickets = s.tickets;
-  },
-  a,
-)
+accepted_is p os s a = (assumption, a)
 
 waits : (p : Plain) (u : WaitingUpdate) → IsSound p → p.ready ≡ true → IsReply u.reply → IsSound (record p { waiting_updates = p.waiting_updates ++ u ∷ [] })
-waits p u s r h = record {
-  own = s.own;
-  ids = s.ids;
-  unknown = s.unknown;
-  known = s.known;
-  in_epoch = s.in_epoch;
-  idle_updates = λ e. absurd (cc);
-  idle_reads = s.idle_reads;
-  based = s.based;
-  within = s.within;
-  state = s.state;
-  entries = s.entries;
-  placed = s.placed;
-  applicable = s.applicable;
-  gathering = s.gathering;
-  replies = all_append (λ (u : WaitingUpdate). IsReply u.reply) p.waiting_updates (u ∷ []) s.replies (h, tt);
-  tickets = s.tickets;
-}
+waits p u s r h = grind (arith, all_append (λ (u : WaitingUpdate). IsReply u.reply) p.waiting_updates (u ∷ []) s.replies (h, tt))
 
 reply_is : (p : Plain) (position : ℕ) (reply : Reply) (sends : List Out) → IsSound p → p.ready ≡ true → IsReply reply → AreEncodableIfFitting sends → IsSoundIfTaken (reply_transition p position reply sends)
 unfolding reply_transition

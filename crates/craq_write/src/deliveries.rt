@@ -1,5 +1,5 @@
 //! The rules of entries, batches, acknowledgements and blanks that arrive. `craq_node` calls them.
-ghost use Rattle.std.specs.Prelude.{◌≡◌, ◌≤◌, ◌<◌, ◌+◌, ◌++◌, ◌∷◌, [], length, true, false, nat_lt, if◌then◌else◌, Some, None, Ok, IfOk, IfErr, OnOk, IsOk, IsSome, map};
+ghost use Rattle.std.specs.Prelude.{◌≡◌, ◌≤◌, ◌<◌, ◌+◌, ◌++◌, ◌∷◌, [], length, true, nat_lt, if◌then◌else◌, Some, None, Ok, IfOk, IfErr, OnOk, IsOk, IsSome, map};
 ghost use Rattle.craq_model.specs.Deliveries.{ack_transition, blank_transition, pending_updates, entries_above, entries_transition, fill_bodies, final_position, first_position, forwarding_transition, taken_entries_transition};
 ghost use Rattle.craq_model.specs.Past.{length_in, entries_in, clean_in};
 ghost use Rattle.craq_model.specs.Plain.{length_of, with_entries};
@@ -12,7 +12,7 @@ ghost use Rattle.craq_history.specs.Effects.{IsEffectOf};
 ghost use Rattle.craq_history.specs.Standing.{sent_from, caught_up};
 ghost use Rattle.craq_write.specs.Rows.{why_ignored};
 ghost use Rattle.craq_write.specs.Sent.{CannotFill, CannotSend, LacksOrOutgrows};
-ghost use Rattle.craq_write.specs.Settling.{IsIdle};
+ghost use Rattle.craq_write.specs.Settling.{CanTakeEntries};
 
 use crate::making_entries::{forward, only};
 use crate::readiness::{growing, taken_unready};
@@ -272,8 +272,7 @@ fn taken<H: History>(
     end: Seq,
 ) -> Result<(Change, Step), AllocError>
     requires end { end ≡ length_of (plain_of H.past node.now) + length entries }
-    requires idle { node.now.ready ≡ false → IsIdle (plain_of H.past node.now) }
-    requires within { (H.past node.now.history).acknowledged ≤ length_of (plain_of H.past node.now) }
+    requires takes { CanTakeEntries (plain_of H.past node.now) }
     ensures { IfOk result (λ r. IsEffectOf (plain_of H.past node.now) r (taken_entries_transition (with_entries (plain_of H.past node.now) entries) entries)) }
 {
     if node.ready {
@@ -292,8 +291,7 @@ pub fn compute_entry<H: History>(
     sender: NodeId,
     entry: Entry,
 ) -> Result<(Change, Step), AllocError>
-    requires idle { node.now.ready ≡ false → IsIdle (plain_of H.past node.now) }
-    requires within { (H.past node.now.history).acknowledged ≤ length_of (plain_of H.past node.now) }
+    requires takes { CanTakeEntries (plain_of H.past node.now) }
     ensures transition { IfOk result (λ r. IsEffectOf (plain_of H.past node.now) r (entries_transition (plain_of H.past node.now) sender (entry ∷ []))) }
     ensures free { IsSome (entries_transition (plain_of H.past node.now) sender (entry ∷ [])).1.ignored → IsOk result }
 {
@@ -330,8 +328,7 @@ pub fn compute_entries<H: History>(
     entries: Items<Entry>,
 ) -> Result<(Change, Step), AllocError>
     requires row { IsConsecutive entries }
-    requires idle { node.now.ready ≡ false → IsIdle (plain_of H.past node.now) }
-    requires within { (H.past node.now.history).acknowledged ≤ length_of (plain_of H.past node.now) }
+    requires takes { CanTakeEntries (plain_of H.past node.now) }
     ensures transition { IfOk result (λ r. IsEffectOf (plain_of H.past node.now) r (entries_transition (plain_of H.past node.now) sender entries)) }
     ensures free { IsSome (entries_transition (plain_of H.past node.now) sender entries).1.ignored → IsOk result }
 {

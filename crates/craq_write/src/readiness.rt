@@ -1,6 +1,6 @@
 //! A joining node: the entries, states and floors that it receives until it is ready. `craq_node`,
 //! `deliveries` and `gathering` call this.
-ghost use Rattle.std.specs.Prelude.{◌≡◌, ◌≤◌, ◌+◌, ◌==◌, ◌++◌, [], length, Some, true, false, if◌then◌else◌, OnOk, IfOk, IsOk, IsSome};
+ghost use Rattle.std.specs.Prelude.{◌≡◌, ◌≤◌, ◌+◌, ◌==◌, ◌++◌, [], length, Some, true, false, if◌then◌else◌, IfOk, IsOk, IsSome};
 ghost use Rattle.craq_model.specs.Deliveries.{copy_transition, floor_transition, with_copy};
 ghost use Rattle.craq_model.specs.Past.{entries_in};
 ghost use Rattle.craq_model.specs.Plain.{length_of, with_entries};
@@ -10,7 +10,7 @@ ghost use Rattle.craq_history.specs.Nodes.{plain_of};
 ghost use Rattle.craq_history.specs.Effects.{IsEffectOf};
 ghost use Rattle.craq_history.specs.Standing.{ready_outs};
 ghost use Rattle.craq_write.specs.Gathered.{gathering_at};
-ghost use Rattle.craq_write.specs.Settling.{IsIdle};
+ghost use Rattle.craq_write.specs.Settling.{CanTakeEntries, IsIdle};
 
 use craq_commands::{Entry, State};
 use craq_history::members::{last_member, predecessor_of};
@@ -133,8 +133,7 @@ fn ready_by_entries<H: History>(
 ) -> Result<(Change, Step), AllocError>
     requires end { end ≡ length_of (plain_of H.past node.now) + length entries }
     requires unready { node.now.ready ≡ false }
-    requires idle { IsIdle (plain_of H.past node.now) }
-    requires within { (H.past node.now.history).acknowledged ≤ length_of (plain_of H.past node.now) }
+    requires takes { CanTakeEntries (plain_of H.past node.now) }
     requires reached { is_reached node.now.floor end ≡ true }
     ensures { IfOk result (λ r. IsEffectOf (plain_of H.past node.now) r (readiness_transition (with_entries (plain_of H.past node.now) entries))) }
 {
@@ -156,8 +155,7 @@ pub(crate) fn taken_unready<H: History>(
 ) -> Result<(Change, Step), AllocError>
     requires end { end ≡ length_of (plain_of H.past node.now) + length entries }
     requires unready { node.now.ready ≡ false }
-    requires idle { IsIdle (plain_of H.past node.now) }
-    requires within { (H.past node.now.history).acknowledged ≤ length_of (plain_of H.past node.now) }
+    requires takes { CanTakeEntries (plain_of H.past node.now) }
     ensures { IfOk result (λ r. IsEffectOf (plain_of H.past node.now) r (readiness_transition (with_entries (plain_of H.past node.now) entries))) }
 {
     if is_floor_reached(node.floor, end) {

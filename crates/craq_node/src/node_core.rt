@@ -4,9 +4,9 @@
 //!
 //! Each rule has its own function here, because a function pays at entry for all the space that it
 //! may need.
-ghost use Rattle.std.specs.Prelude.{◌≡◌, ◌≢◌, ◌==◌, true, not, IfOk, IsOk, IsSome, ◌≤◌, ◌<◌, ◌-◌, ◌^◌, ◌∷◌, [], false, Ok};
+ghost use Rattle.std.specs.Prelude.{◌≡◌, ◌≢◌, ◌==◌, true, not, IfOk, IsOk, IsSome, ◌<◌, ◌-◌, ◌^◌, ◌∷◌, [], false, Ok};
 ghost use Rattle.craq_model.specs.Deliveries.{delivery_transition, ack_transition, blank_transition, config_transition, copy_transition, entries_transition, floor_transition, part_transition, query_transition, version_transition};
-ghost use Rattle.craq_model.specs.Plain.{Plain, opening_member, length_of, newest};
+ghost use Rattle.craq_model.specs.Plain.{Plain, opening_member, newest};
 ghost use Rattle.craq_model.specs.Node.{event_transition, is_for, outs_fit};
 ghost use Rattle.craq_model.specs.Encodable.{IsEncodable, IsConsecutive};
 ghost use Rattle.craq_node_invariant.specs.Sound.{AreEncodable, IsSound, IsEncodableAsk, IsEncodableEvent};
@@ -20,7 +20,7 @@ ghost use Rattle.craq_model.specs.Asks.{ask_transition, read_transition, update_
 ghost use Rattle.craq_history.specs.Change.{changed, no_change};
 ghost use Rattle.craq_history.specs.Effects.{CanMake};
 ghost use Rattle.craq_write.specs.Gathered.{IsInOrder, IsOrdered};
-ghost use Rattle.craq_write.specs.Settling.{IsIdle};
+ghost use Rattle.craq_write.specs.Settling.{CanTakeEntries, IsIdle};
 
 use crate::Core;
 use crate::admitting::admit;
@@ -156,8 +156,7 @@ fn take_entry<H: History>(
     sender: NodeId,
     entry: Entry,
 ) -> Result<Step, Refusal>
-    requires idle { node.old.ready ≡ false → IsIdle (plain_of H.past node.old) }
-    requires within { (H.past node.old.history).acknowledged ≤ length_of (plain_of H.past node.old) }
+    requires takes { CanTakeEntries (plain_of H.past node.old) }
     requires sound { LeadsToSound (Ok (entries_transition (plain_of H.past node.old) sender (entry ∷ []))) }
     ensures gives { StepGives H.forgets (plain_of H.past node.old) (plain_of H.past node.new) result (Ok (entries_transition (plain_of H.past node.old) sender (entry ∷ []))) }
     ensures name { (plain_of H.past node.new).name ≡ (plain_of H.past node.old).name }
@@ -177,8 +176,7 @@ fn take_entries<H: History>(
     entries: Items<Entry>,
 ) -> Result<Step, Refusal>
     requires row { IsConsecutive entries }
-    requires idle { node.old.ready ≡ false → IsIdle (plain_of H.past node.old) }
-    requires within { (H.past node.old.history).acknowledged ≤ length_of (plain_of H.past node.old) }
+    requires takes { CanTakeEntries (plain_of H.past node.old) }
     requires sound { LeadsToSound (Ok (entries_transition (plain_of H.past node.old) sender entries)) }
     ensures gives { StepGives H.forgets (plain_of H.past node.old) (plain_of H.past node.new) result (Ok (entries_transition (plain_of H.past node.old) sender entries)) }
     ensures name { (plain_of H.past node.new).name ≡ (plain_of H.past node.old).name }

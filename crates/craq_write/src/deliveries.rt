@@ -59,9 +59,9 @@ fn answer_pending(
     Ok(())
 }
 
-/// Plans an acknowledgement: the history is committed up to a position. Updates that waited for it
-/// get their replies, and the acknowledgement goes to the predecessor (OSDI 2004). Ignored, in this
-/// order:
+/// Computes the step for an acknowledgement: the history is committed up to a position. Updates
+/// that waited for it get their replies, and the acknowledgement goes to the predecessor (OSDI
+/// 2004). Ignored, in this order:
 ///
 /// - `NotNeighbour` if the sender is not the successor.
 /// - `NotReadyHere` if the node is not ready.
@@ -159,8 +159,8 @@ fn filling<H: History>(
     Ok(outs)
 }
 
-/// Plans the reply to an unready successor with this many entries: the clean state if that is ahead
-/// of it, the entries after it, and the count of entries. Ignored if the sender is not the
+/// Computes the reply to an unready successor with this many entries: the clean state if that is
+/// ahead of it, the entries after it, and the count of entries. Ignored if the sender is not the
 /// successor (`NotNeighbour`) or this node is not ready (`NotReadyHere`). Fails with `Memory` when
 /// out of memory, and with `Exhausted` if the state has more parts than 32 bits count. This
 /// project's profile.
@@ -185,8 +185,8 @@ pub fn compute_blank<H: History>(
     Ok((Change::none(), done(outs)))
 }
 
-/// Plans new entries at a ready node. The tail commits them and sends one acknowledgement for all
-/// to its predecessor; any other node forwards them.
+/// Computes the step for new entries at a ready node. The tail commits them and sends one
+/// acknowledgement for all to its predecessor; any other node forwards them.
 #[tactic(auto, unfolding(craq_model::specs::Deliveries::forwarding_transition))]
 fn passed_on<H: History>(
     alloc: Global,
@@ -264,7 +264,7 @@ fn why_ignored<H: History>(node: &Node<H>, sender: NodeId, start: Seq, end: Seq)
     None
 }
 
-/// Plans entries that follow the node's own and are all taken.
+/// Computes the step for entries that follow the node's own and are all taken.
 fn taken<H: History>(
     alloc: Global,
     node: &Node<H>,
@@ -281,9 +281,9 @@ fn taken<H: History>(
     taken_unready(alloc, node, entries, end)
 }
 
-/// Plans one entry from the predecessor, as `compute_entries` plans a batch of one: it is ignored, or
-/// appended and forwarded. The entry is moved into the history, and copied only for the successor.
-/// Ignoring it allocates nothing.
+/// Computes the step for one entry from the predecessor, as `compute_entries` does for a batch of
+/// one: it is ignored, or appended and forwarded. The entry is moved into the history, and copied
+/// only for the successor. Ignoring it allocates nothing.
 #[tactic(auto, using(crate::proofs::Rows::one_above, crate::proofs::Heard::taken_heard), unfolding(craq_model::specs::Deliveries::entries_transition, craq_model::specs::Plain::newest))]
 pub fn compute_entry<H: History>(
     alloc: Global,
@@ -306,9 +306,9 @@ pub fn compute_entry<H: History>(
     taken(alloc, node, next, position)
 }
 
-/// Plans consecutive entries from the predecessor. Those that the node already holds are left out;
-/// of the others all are appended, or none. The tail commits them, any other ready node forwards
-/// them (OSDI 2004), and a node that is not ready may become ready.
+/// Computes the step for consecutive entries from the predecessor. Those that the node already
+/// holds are left out; of the others all are appended, or none. The tail commits them, any other
+/// ready node forwards them (OSDI 2004), and a node that is not ready may become ready.
 ///
 /// Ignored, in this order (batches are this project's profile):
 ///

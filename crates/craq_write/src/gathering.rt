@@ -145,8 +145,8 @@ fn joined_with(alloc: Global, parts: &[(u32, State)], part: StatePart) -> Result
     gathered_state(alloc, all)
 }
 
-/// Plans a part that fits: it is kept with the other parts of its state. If it was the last missing
-/// part, the state replaces the history.
+/// Computes the step for a part that fits: it is kept with the other parts of its state. If it was
+/// the last missing part, the state replaces the history.
 fn part_kept<H: History>(
     alloc: Global,
     node: &Node<H>,
@@ -173,10 +173,10 @@ fn part_kept<H: History>(
     Ok((change, done(Vec::new(alloc))))
 }
 
-/// Plans a part of a state that is ahead of the node's history and not behind the state that it
-/// gathers. Keeps the part if it fits those held. Ignored if its part count differs (`TooFar`), if
-/// it is held (`AlreadyHave`), or if its items do not stand between those of the held parts
-/// (`TooFar`).
+/// Computes the step for a part of a state that is ahead of the node's history and not behind the
+/// state that it gathers. Keeps the part if it fits those held. Ignored if its part count differs
+/// (`TooFar`), if it is held (`AlreadyHave`), or if its items do not stand between those of the
+/// held parts (`TooFar`).
 #[tactic(auto, using(crate::proofs::Gathers::is_current), unfolding(craq_model::specs::Parts::is_in_order))]
 fn part_fitted<H: History>(
     alloc: Global,
@@ -204,9 +204,9 @@ fn part_fitted<H: History>(
     Ok((Change::none(), ignoring(alloc, Why::TooFar)))
 }
 
-/// Plans a part of a state from the predecessor, at a node that is not ready. The part is kept with
-/// the others of its state, or alone if its state is ahead of the gathered one. Once none is
-/// missing, the state replaces the history, as a state in one message does.
+/// Computes the step for a part of a state from the predecessor, at a node that is not ready. The
+/// part is kept with the others of its state, or alone if its state is ahead of the gathered one.
+/// Once none is missing, the state replaces the history, as a state in one message does.
 ///
 /// Ignored if the sender is not the predecessor (`NotNeighbour`); if the node is ready, holds as
 /// many entries, gathers a later state, or holds the part (`AlreadyHave`); if the part count

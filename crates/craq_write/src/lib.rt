@@ -1,4 +1,4 @@
-//! The update rules of a node: each plans a change and the sends, and changes nothing itself.
+//! The update rules of a node: each computes a change and the sends, and changes nothing itself.
 //! Runs in the program; `craq_node` calls it.
 #![tactic(auto)]
 

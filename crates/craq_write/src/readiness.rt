@@ -124,7 +124,8 @@ fn growing_ready(entries: Items<Entry>, acknowledged: Option<Seq>) -> Change
     change
 }
 
-/// Plans entries by which a node becomes ready. The last member commits all its entries.
+/// Computes the step for entries by which a node becomes ready. The last member commits all its
+/// entries.
 fn ready_by_entries<H: History>(
     alloc: Global,
     node: &Node<H>,
@@ -145,8 +146,8 @@ fn ready_by_entries<H: History>(
     Ok((growing_ready(entries, None), done(outs)))
 }
 
-/// Plans the predecessor's next entries, at a node that is not ready. They are appended, and the
-/// node becomes ready if it then holds as many entries as its floor.
+/// Computes the step for the predecessor's next entries, at a node that is not ready. They are
+/// appended, and the node becomes ready if it then holds as many entries as its floor.
 pub(crate) fn taken_unready<H: History>(
     alloc: Global,
     node: &Node<H>,
@@ -176,7 +177,8 @@ fn copying(state: State, position: Seq, gathering: GatheringChange) -> Change
     change
 }
 
-/// Plans a state by which a node becomes ready. All of it is committed, and no request waits.
+/// Computes the step for a state by which a node becomes ready. All of it is committed, and no
+/// request waits.
 fn ready_by_copy<H: History>(
     alloc: Global,
     node: &Node<H>,
@@ -194,8 +196,8 @@ fn ready_by_copy<H: History>(
     Ok((change, done(outs)))
 }
 
-/// Plans a state that replaces the history of a node that is not ready. The node becomes ready if
-/// it then holds as many entries as its floor.
+/// Computes the step for a state that replaces the history of a node that is not ready. The node
+/// becomes ready if it then holds as many entries as its floor.
 pub(crate) fn state_taken<H: History>(
     alloc: Global,
     node: &Node<H>,
@@ -213,11 +215,11 @@ pub(crate) fn state_taken<H: History>(
     Ok((copying(state, position, gathering), done(Vec::new(alloc))))
 }
 
-/// Plans a state from the predecessor, at a node that is not ready. It replaces the history if it
-/// is ahead of it, and the node becomes ready if it then holds as many entries as its floor.
-/// Ignored if the sender is not the predecessor (`NotNeighbour`), and if the node is ready or holds
-/// as many entries (`AlreadyHave`). A new server gets its history behind the tail (OSDI 2004);
-/// sending it as a state, and floors, are this project's profile.
+/// Computes the step for a state from the predecessor, at a node that is not ready. It replaces the
+/// history if it is ahead of it, and the node becomes ready if it then holds as many entries as its
+/// floor. Ignored if the sender is not the predecessor (`NotNeighbour`), and if the node is ready
+/// or holds as many entries (`AlreadyHave`). A new server gets its history behind the tail (OSDI
+/// 2004); sending it as a state, and floors, are this project's profile.
 #[tactic(auto, using(crate::proofs::Heard::readiness_heard), unfolding(craq_model::specs::Deliveries::copy_transition))]
 pub fn compute_copy<H: History>(
     alloc: Global,
@@ -239,8 +241,8 @@ pub fn compute_copy<H: History>(
     state_taken(alloc, node, position, state)
 }
 
-/// Plans a floor that is reached already: the node becomes ready, and the last member commits all
-/// its entries.
+/// Computes the step for a floor that is reached already: the node becomes ready, and the last
+/// member commits all its entries.
 #[tactic(auto, using(crate::proofs::Ends::nothing_after_all), unfolding(craq_model::specs::Settle::readiness_transition, craq_model::specs::Settle::settling_transition, craq_model::specs::Settle::all_given, craq_model::specs::Settle::by_ticket, craq_model::specs::Sends::tick_sends, craq_model::specs::Sends::ready_sends, craq_model::specs::Sends::catch_up, craq_model::specs::Plain::entries_after))]
 fn ready_by_floor<H: History>(
     alloc: Global,
@@ -270,8 +272,8 @@ fn ready_by_floor<H: History>(
     Ok((change, done(outs)))
 }
 
-/// Plans a floor at a node that is not ready. The node becomes ready at once if it holds as many
-/// entries.
+/// Computes the step for a floor at a node that is not ready. The node becomes ready at once if it
+/// holds as many entries.
 fn floor_taken<H: History>(
     alloc: Global,
     node: &Node<H>,
@@ -291,10 +293,10 @@ fn floor_taken<H: History>(
     Ok((change, done(Vec::new(alloc))))
 }
 
-/// Plans a floor from the ready predecessor, at a node that is not ready: the number of entries
-/// that the node must hold to become ready. It becomes ready at once if it holds as many. Ignored
-/// if the sender is not the predecessor (`NotNeighbour`) or the node is ready (`AlreadyHave`). This
-/// project's profile.
+/// Computes the step for a floor from the ready predecessor, at a node that is not ready: the
+/// number of entries that the node must hold to become ready. It becomes ready at once if it holds
+/// as many. Ignored if the sender is not the predecessor (`NotNeighbour`) or the node is ready
+/// (`AlreadyHave`). This project's profile.
 #[tactic(auto, using(crate::proofs::Heard::readiness_heard), unfolding(craq_model::specs::Deliveries::floor_transition))]
 pub fn compute_floor<H: History>(
     alloc: Global,

@@ -104,8 +104,8 @@ fn take_membership(change: &mut Change, config: Config)
     change.gathering = GatheringChange::Dropped;
 }
 
-/// Plans adopting a membership as its tail: all entries are committed, and all waiting requests get
-/// replies.
+/// Computes the step of a node that adopts a membership as its tail: all entries are committed, and
+/// all waiting requests get replies.
 #[tactic(auto, unfolding(craq_model::specs::Settle::settling_transition, craq_model::specs::Settle::all_given, craq_model::specs::Plain::newest))]
 fn settled_as_tail<H: History>(
     alloc: Global,
@@ -132,7 +132,8 @@ fn settled_as_tail<H: History>(
     Ok((change, done(outs)))
 }
 
-/// Plans adopting a membership in any other role: the node repeats its pending sends.
+/// Computes the step of a node that adopts a membership in any other role: the node repeats its
+/// pending sends.
 #[tactic(auto, unfolding(craq_model::specs::Settle::settling_transition))]
 fn settled_in_line<H: History>(
     alloc: Global,
@@ -155,12 +156,12 @@ fn settled_in_line<H: History>(
     Ok((change, done(outs)))
 }
 
-/// Plans adopting a membership of a later epoch. The floor and the gathered parts of the old one
-/// are dropped. The tail commits all its entries and replies to all waiting requests. Then the node
-/// repeats its pending sends. The master sends each new chain to its servers, and neighbours resend
-/// what is not acknowledged (OSDI 2004); epochs and floors are this project's profile. Ignored if
-/// the epoch is not later than the node's (`OtherEpoch`), or if the node is no member
-/// (`NotNeighbour`).
+/// Computes the step of a node that adopts a membership of a later epoch. The floor and the
+/// gathered parts of the old one are dropped. The tail commits all its entries and replies to all
+/// waiting requests. Then the node repeats its pending sends. The master sends each new chain to
+/// its servers, and neighbours resend what is not acknowledged (OSDI 2004); epochs and floors are
+/// this project's profile. Ignored if the epoch is not later than the node's (`OtherEpoch`), or if
+/// the node is no member (`NotNeighbour`).
 #[tactic(auto, unfolding(craq_model::specs::Deliveries::config_transition, craq_model::specs::Settle::settling_transition))]
 pub fn compute_config<H: History>(
     alloc: Global,

@@ -74,8 +74,8 @@ fn has_place<H: History>(node: &Node<H>, length: u64, position: u64) -> bool
     position <= committed_then(node, length) || !node.is_full()
 }
 
-/// Plans the reply to an update that can be taken. It is sent once the history is committed up to a
-/// position: in this step if that is so after the change, else the update waits.
+/// Computes the reply to an update that can be taken. It is sent once the history is committed up
+/// to a position: in this step if that is so after the change, else the update waits.
 #[tactic(auto, unfolding(craq_model::specs::Asks::reply_transition, craq_model::specs::Asks::is_full))]
 fn replied<H: History>(
     node: &Node<H>,
@@ -141,8 +141,8 @@ fn committing<H: History>(node: &Node<H>, change: Change, length: u64) -> Commit
     }
 }
 
-/// Plans an update whose number is not new and that can be taken: its reply waits for a position of
-/// the history.
+/// Computes the step for an update whose number is not new and that can be taken: its reply waits
+/// for a position of the history.
 fn reported_again<H: History>(
     alloc: Global,
     node: &Node<H>,
@@ -159,7 +159,8 @@ fn reported_again<H: History>(
     replied(node, committed, position, reply, sends)
 }
 
-/// Plans an update whose number is not new: its reply waits for its client's newest entry.
+/// Computes the step for an update whose number is not new: its reply waits for its client's newest
+/// entry.
 fn asked_before<H: History>(
     alloc: Global,
     node: &Node<H>,
@@ -173,11 +174,12 @@ fn asked_before<H: History>(
     if !has_place(node, node.history.len(), position) {
         return Err(Refusal::PendingFull);
     }
-    let plan = reported_again(alloc, node, position, reply)?;
-    Ok(plan)
+    let computed = reported_again(alloc, node, position, reply)?;
+    Ok(computed)
 }
 
-/// Plans a new update that can be taken: its outcome becomes an entry, which goes to the successor.
+/// Computes the step for a new update that can be taken: its outcome becomes an entry, which goes
+/// to the successor.
 fn entered<H: History>(
     alloc: Global,
     node: &Node<H>,
@@ -231,8 +233,9 @@ fn entry_made<H: History>(
     })
 }
 
-/// Plans a new update at the head: it is evaluated on the newest state and becomes the next entry.
-/// The errors `Exhausted` and `PendingFull` are found before anything is made; then comes `Memory`.
+/// Computes the step for a new update at the head: it is evaluated on the newest state and becomes
+/// the next entry. The errors `Exhausted` and `PendingFull` are found before anything is made; then
+/// comes `Memory`.
 #[tactic(auto, unfolding(craq_model::specs::Asks::update_transition, craq_model::specs::Plain::newest))]
 fn compute_new<H: History>(
     alloc: Global,
@@ -255,15 +258,16 @@ fn compute_new<H: History>(
         return Err(Refusal::PendingFull);
     }
     let entry = entry_made(alloc, node, update.client, update.number, command)?;
-    let plan = entered(alloc, node, entry)?;
-    Ok(plan)
+    let computed = entered(alloc, node, entry)?;
+    Ok(computed)
 }
 
-/// Plans an update at a ready head that has a ticket left. A new number makes an entry, at the next
-/// position. An earlier number gets the kept reply, or `Stale`, at the position of its client's
-/// newest entry. If that position is committed, this step sends the reply; else the update waits.
-/// The head decides an update and sends the resulting values (USENIX ATC 2009). Entries for updates
-/// that write nothing, and at most 8 kept replies for a client, are this project's profile.
+/// Computes the step for an update at a ready head that has a ticket left. A new number makes an
+/// entry, at the next position. An earlier number gets the kept reply, or `Stale`, at the position
+/// of its client's newest entry. If that position is committed, this step sends the reply; else the
+/// update waits. The head decides an update and sends the resulting values (USENIX ATC 2009).
+/// Entries for updates that write nothing, and at most 8 kept replies for a client, are this
+/// project's profile.
 ///
 /// The errors, in order, found before anything is evaluated or copied:
 ///

@@ -457,7 +457,7 @@ pub(crate) fn run_inline<R: Wait, C: Core + Named, G: Gate>(
 ) {
     let Ok(nodes) = chain.nodes(rt, shared.alloc) else {
         chain.wake_up.doze();
-        chain.wake_up.ring();
+        chain.wake_up.wake();
         return;
     };
     for _ in 0..ROUNDS {
@@ -467,6 +467,6 @@ pub(crate) fn run_inline<R: Wait, C: Core + Named, G: Gate>(
     }
     chain.wake_up.doze();
     if nodes.iter().any(|node| !node.inbox.is_empty()) {
-        chain.wake_up.ring();
+        chain.wake_up.wake();
     }
 }

@@ -265,7 +265,7 @@ impl<C: Core + Named> Chain<C> {
                 route.forward(rt, Delivery::Tick);
             }
         }
-        self.wake_up.ring();
+        self.wake_up.wake();
     }
 
     /// Reserves room for the entry of one more node. The room stays while the caller has the

@@ -62,7 +62,7 @@ enum RequestWay {
     Inline,
     /// The request waits in the node's queue.
     Queue,
-    /// The request waits there until the caller runs the chain.
+    /// The request waits in the node's queue until its caller runs the chain.
     QueueForCaller,
 }
 
@@ -151,7 +151,7 @@ impl<C: Core + Named, G: Gate> Shared<C, G> {
         }
         link.forward(rt, wire);
         match wakes {
-            Wakes::ChainThread => chain.wake_up.ring(),
+            Wakes::ChainThread => chain.wake_up.wake(),
             Wakes::Nobody => (),
         }
     }
@@ -231,7 +231,7 @@ impl<C: Core + Named, G: Gate> Shared<C, G> {
             }
             RequestWay::Queue => {
                 let queued = queue(rt, chain, own);
-                chain.wake_up.ring();
+                chain.wake_up.wake();
                 queued
             }
             RequestWay::QueueForCaller => {

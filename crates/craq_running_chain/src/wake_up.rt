@@ -1,5 +1,5 @@
-//! `WakeUp`: the wake-up of the chain thread, rung by each thread that brings something to the
-//! chain. It costs a system call only if the thread sleeps.
+//! `WakeUp` wakes the chain thread. Each thread that brings something to the chain calls it. It costs
+//! a system call only if the chain thread sleeps.
 use std::sync::Wait;
 use std::sync::atomic::{AtomicBool, AtomicU64, Ordering};
 use std::thread::Parker;
@@ -31,7 +31,7 @@ impl WakeUp {
     }
 
     /// Wakes the chain thread (`run_chain_thread`) if it sleeps. What waits has to be there before.
-    pub(crate) fn ring(&self) {
+    pub(crate) fn wake(&self) {
         if self.idle.load(Ordering::SeqCst) && self.idle.swap(false, Ordering::SeqCst) {
             self.parker.unpark();
         }

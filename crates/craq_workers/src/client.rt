@@ -1,6 +1,6 @@
 //! `Client`: blocking calls of a store from any thread, one at a time, with the pass that they
 //! raise and the history that they have seen. `make_call`, `finish_call` and `give_up_call` serve the
-//! calls of sessions too (`asking`).
+//! calls of sessions too (`sessions`).
 ghost use Rattle.std.specs.Prelude.{◌≡◌, ◌<◌, ◌⊎◌, ◌≤◌, ◌+◌, ◌↔◌, List, Some, max, Err, IfErr, IfOk, IfSome, Ok, OnErr, length};
 ghost use mathlib.Core.List.{IsPrefix};
 ghost use Rattle.craq_names.specs.Limits.{greatest};

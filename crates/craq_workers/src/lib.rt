@@ -5,13 +5,13 @@
 //! Code that runs in the programs.
 #![tactic(auto)]
 
-mod asking;
 mod auditing;
 mod client;
 mod history;
 mod looking;
 mod losses;
 mod opening;
+mod sessions;
 mod store;
 
 pub use client::Client;

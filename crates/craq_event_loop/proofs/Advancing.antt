@@ -19,7 +19,7 @@ use Rattle.craq_event_loop.specs.declared.connection_state.Stepped.TheVariants a
 use Rattle.craq_event_loop.specs.declared.connection_state.CallRequest.{CallRequest}
 use Rattle.craq_event_loop.specs.declared.connection.Connection.{Connection}
 use Rattle.craq_event_loop.specs.Advancing.{AsksBackend, ChangesSession, TakesSteps, none, step, call, TakesRound, rests, HasRound, HasRoundAt, next_call, under_key}
-use Rattle.craq_event_loop.specs.Belonging.{GetsOutcome, GetsCompletion, KeepsSlot}
+use Rattle.craq_event_loop.specs.Belonging.{ChangesState, GetsOutcome, GetsCompletion}
 use Rattle.craq_event_loop.proofs.Completions.{receipt_refusable, refusal_refusable}
 
 -- the state where an outcome came, before it is answered and after
@@ -102,9 +102,9 @@ module _ {T : Type 0} (most : ℕ) (tells : List ℕ → Type 0) (refuses : Refu
 module _ {S T : Type 0} (most : ℕ) (tells : List ℕ → Type 0) (refuses : Refusing) where
   -- a connection has had its round in its slab, if its new value is stored under its key
   pub turned_at : (submits : CallToken → Calling T) (s : Slab (Connection S T)) (key : ℕ) (c d : Connection S T)
-      → get s key ≡ Some c → HasRound most tells refuses (under_key submits key) c.over c.state c.calls d.state d.calls → d.stream ≡ c.stream → d.over ≡ c.over → d.busy ≡ c.busy → KeepsSlot c d → d.readiness ≡ c.readiness
+      → get s key ≡ Some c → HasRound most tells refuses (under_key submits key) c.over c.state c.calls d.state d.calls → ChangesState (record c { calls = d.calls }) d
       → HasRoundAt most tells refuses submits s (with_value s key d) key
-  turned_at submits s key c d was took same ends marked slot ready c' here =
+  turned_at submits s key c d was took rest c' here =
       let e : c' ≡ c = cc in
       let is : get (with_value s key d) key ≡ Some d = (Updates-with_value s key d (rw was refl)).changed in
-      rw e (d, is, took, same, ends, marked, slot, ready)
+      rw e (d, is, took, rest)

@@ -1,5 +1,5 @@
 -- Laws of the bytes of a connection: where nothing was read or written, in a slab, and after events under one key after another.
-use Rattle.std.proofs.Common.{◌≡◌, ◌≢◌, ◌≤◌, ◌<◌, ℕ, zero, suc, ◌+◌, length, take, get_or, arith, length-append, true, List, [], ◌∷◌, ◌++◌, Option, Some, None, Result, Ok, Err, OnOk, OnErr, ◌⊎◌, ◌↔◌, inl, inr, sym, refl, subst, ◌∙◌}
+use Rattle.std.proofs.Common.{◌≡◌, ◌≢◌, ◌≤◌, ◌<◌, ℕ, zero, suc, ◌+◌, length, take, get_or, arith, length-append, List, [], ◌∷◌, ◌++◌, Option, Some, None, Result, Ok, Err, OnOk, OnErr, ◌⊎◌, ◌↔◌, inl, inr, sym, refl, subst, ◌∙◌}
 use Rattle.std.specs.Io.KnownBytes.{Appends, Consumes}
 use Rattle.std.proofs.lemmas.List.{append-nil, append_assoc, take_more}
 use Rattle.craq_event_loop.specs.SubmittedCalls.{Finishing}
@@ -87,18 +87,13 @@ module _ {S T : Type 0} (now : ℕ) (old new : Connection S T) where
       → SendsBytes (take count bytes) old.state new.state → SendsNow now old new
   gave_now count bytes some few at sends = inr (at, take count bytes, some_taken count bytes some few, sends)
 
--- a connection that takes a completion takes it, also if it is then marked as having something to do
-taken_busy : {S T R : Type 0} (finishes : Finishing T R) (number : ℕ) (reply : R) (c d : Connection S T) → TakesCompletion finishes number reply c d
-    → TakesCompletion finishes number reply c (record d { busy = true })
-taken_busy finishes number reply c d takes = record { own = takes.own; another = takes.another; calls = takes.calls; stream = takes.stream; over = takes.over; readiness = takes.readiness; slot = takes.slot }
-
 -- the connection under the token's key takes the completion, and then has something to do
 pub delivered : {S T R : Type 0} (finishes : Finishing T R) (s t : Slab (Connection S T)) (token : CallToken) (c d : Connection S T) (reply : R)
     → get s token.connection ≡ Some c → TakesCompletion finishes token.call reply c d → Wakes (with_value s token.connection d) t token.connection → Delivers finishes s t token reply
 delivered finishes s t token c d reply was takes wakes c' here =
     let e : c' ≡ c = cc in
     let is : get (with_value s token.connection d) token.connection ≡ Some d = (Updates-with_value s token.connection d (rw was refl)).changed in
-    rw e (record d { busy = true }, wakes d is, taken_busy finishes token.call reply c d takes)
+    rw e (d, wakes d is, takes)
 
 module _ {S T R : Type 0} (finishes : Finishing T R) where
   -- these completions are left, and those behind them are delivered

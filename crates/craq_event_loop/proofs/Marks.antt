@@ -158,10 +158,10 @@ module _ {S T : Type 0} where
 
 module _ {S T : Type 0} (remaining contents : S → Option (List ℕ)) (is_over is_dry is_full : S → Type 0) (tells : List ℕ → Type 0) (refuses : Refusing) (submits : CallToken → Calling T) where
   keeps_read : KeepsMarks {S = S} {T = T} (ReadsAt remaining contents is_over is_dry is_full)
-  keeps_read s t key reads c was = ((reads c was).0, (reads c was).1, (reads c was).2.busy)
+  keeps_read s t key reads c was = ((reads c was).0, (reads c was).1, ap (λ (x : Connection S T). x.busy) (reads c was).2.rest)
 
   keeps_turned : (most : ℕ) → KeepsMarks {S = S} {T = T} (λ s t key. HasRoundAt most tells refuses submits s t key)
-  keeps_turned most s t key round c was = ((round c was).0, (round c was).1, (round c was).5)
+  keeps_turned most s t key round c was = ((round c was).0, (round c was).1, ap (λ (x : Connection S T). x.busy) (round c was).3)
 
   -- a mark that is set after a write is right
   right_at : (s t : Slab (Connection S T)) (key : ℕ) (o : Option (Connection S T)) → get s key ≡ o → Alone (WritesAt remaining contents is_over is_dry is_full) s t key → IsRightAt t key

@@ -16,7 +16,7 @@ use Rattle.craq_event_loop.specs.declared.connection_state.Phase.{Phase}
 use Rattle.craq_event_loop.specs.declared.connection_state.Phase.TheVariants as phases
 use Rattle.craq_event_loop.specs.declared.connection.Connection.{Connection}
 use Rattle.craq_event_loop.specs.Advancing.{HasRound, under_key}
-use Rattle.craq_event_loop.specs.Belonging.{CameAs, IsNew, Reads, TakesCompletion, Writes}
+use Rattle.craq_event_loop.specs.Belonging.{CameAs, ChangesState, IsNew, Reads, TakesCompletion, Writes}
 use Rattle.craq_event_loop.specs.Busy.{is_waiting}
 use Rattle.craq_event_loop.specs.Reaching.{CompletesCall, IsReachable, Reaches, ReachesOn, begins, completes, receives, sends}
 use Rattle.craq_event_loop.proofs.Reaching.{has_round_reaches}
@@ -123,19 +123,19 @@ module _ {T R : Type 0} (tells : List ℕ → Type 0) (refuses : Refusing) (subm
     }
 
     -- it had a round
-    pub on_round : (c d : Connection S T) (most key : ℕ) → HasRound most tells refuses (under_key submits key) c.over c.state c.calls d.state d.calls → d.stream ≡ c.stream
-        → ReachesOn remaining contents tells refuses submits finishes c d
-    on_round c d most key round still =
-        on_still c d still (λ first came went r. has_round_reaches tells refuses submits finishes first came went most c.over c.state d.state key c.calls d.calls round r)
+    pub on_round : (c d : Connection S T) (most key : ℕ) → HasRound most tells refuses (under_key submits key) c.over c.state c.calls d.state d.calls
+        → ChangesState (record c { calls = d.calls }) d → ReachesOn remaining contents tells refuses submits finishes c d
+    on_round c d most key round rest =
+        on_still c d (ap (λ (x : Connection S T). x.stream) rest) (λ first came went r. has_round_reaches tells refuses submits finishes first came went most c.over c.state d.state key c.calls d.calls round r)
 
     -- it read, had its round, went on, got the outcome of its call, and wrote
     pub on_turn : (b c d e f g : Connection S T) (most key : ℕ) → Reads (remaining b.stream) (remaining c.stream) b.state c.state → contents c.stream ≡ contents b.stream
-        → HasRound most tells refuses (under_key submits key) c.over c.state c.calls d.state d.calls → d.stream ≡ c.stream
+        → HasRound most tells refuses (under_key submits key) c.over c.state c.calls d.state d.calls → ChangesState (record c { calls = d.calls }) d
         → ReachesOn remaining contents tells refuses submits finishes d e
-        → CompletesCall finishes e.state f.state → f.stream ≡ e.stream
+        → CompletesCall finishes e.state f.state → ChangesState e f
         → Writes (contents f.stream) (contents g.stream) f.state g.state → remaining g.stream ≡ remaining f.stream → ReachesOn remaining contents tells refuses submits finishes b g
     on_turn b c d e f g most key reads taken round still rest completed kept writes given =
-        let done : On e f = on_still e f kept (λ first came went r. completes_reaches first came went e.state f.state completed (is_waiting e.state.phase) refl r) in
+        let done : On e f = on_still e f (ap (λ (x : Connection S T). x.stream) kept) (λ first came went r. completes_reaches first came went e.state f.state completed (is_waiting e.state.phase) refl r) in
         on_then b c g (on_read b c reads taken) (on_then c d g (on_round c d most key round still) (on_then d e g rest (on_then e f g done (on_written f g writes given))))
 
     -- a new connection

@@ -121,7 +121,7 @@ module _ {T R : Type 0} (is_new : T → Type 0) (tells : List ℕ → Type 0) (r
     delivered_reachable completion s t (delivers, vacant, others) =
         so_alone Reachable s t completion.token.connection (λ c d was here r.
         let took = delivers c was in
-        subst (λ (x : Connection S T). Reachable x.state) (is_it t completion.token.connection d took.0 here took.1) (completed_reachable completion.token.call completion.reply c took.0 took.2 r))
+        subst (λ (x : Connection S T). Reachable x.state) (is_it t completion.token.connection d (record took.0 { busy = true }) here took.1) (completed_reachable completion.token.call completion.reply c took.0 took.2 r))
         vacant others
 
     all_reachable : (completions : List (Completion R)) (s t : Slab (Connection S T)) → DeliversAll finishes completions s t

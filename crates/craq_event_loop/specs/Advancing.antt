@@ -15,7 +15,7 @@ use Rattle.craq_event_loop.specs.declared.connection_state.Phase.TheVariants as 
 use Rattle.craq_event_loop.specs.declared.connection_state.Stepped.{Stepped}
 use Rattle.craq_event_loop.specs.declared.connection_state.Stepped.TheVariants as steps
 use Rattle.craq_event_loop.specs.declared.connection.Connection.{Connection}
-use Rattle.craq_event_loop.specs.Belonging.{GetsOutcome, KeepsSlot, OneByOne}
+use Rattle.craq_event_loop.specs.Belonging.{ChangesState, GetsOutcome, OneByOne}
 
 -- the number of the call after that of this number; after 2^64 - 1 comes 0, so a number comes again only after 2^64 calls
 abbrev pub next_call : ℕ → ℕ
@@ -92,11 +92,11 @@ HasRound most tells refuses submits true old before new after = (new ≡ old) ×
 HasRound most tells refuses submits false old before new after = TakesRound most tells refuses submits old before new after
 
 -- under this key, the connection had its round: its backend got each call under this key and the number after that of the call before.
--- Its socket, its mark, its slot and its readiness are unchanged, and so is whether it is over
+-- Else nothing of it changes but its connection state
 abbrev pub HasRoundAt : {S T : Type 0} → ℕ → (List ℕ → Type 0) → Refusing → (CallToken → Calling T) → Slab (Connection S T) → Slab (Connection S T) → ℕ → Type 0
 HasRoundAt {S} {T} most tells refuses submits old new key =
     (c : Connection S T) → get old key ≡ Some c
-    → (d : Connection S T) × (get new key ≡ Some d) × HasRound most tells refuses (under_key submits key) c.over c.state c.calls d.state d.calls × (d.stream ≡ c.stream) × (d.over ≡ c.over) × (d.busy ≡ c.busy) × KeepsSlot c d × (d.readiness ≡ c.readiness)
+    → (d : Connection S T) × (get new key ≡ Some d) × HasRound most tells refuses (under_key submits key) c.over c.state c.calls d.state d.calls × ChangesState (record c { calls = d.calls }) d
 
 -- the connections under these keys have their rounds, one after another, in which the backend gets calls under their own keys; and
 -- no other connection changes

@@ -79,26 +79,35 @@ abbrev pub GetsCompletion : {T R : Type 0} → Finishing T R → R → Connectio
 GetsCompletion finishes reply old new =
     (outcome : Result Called Refusal) × IsOutcome finishes old.phase reply old.session outcome new.session × GetsOutcome outcome old new
 
--- it is the connection of the same place, and the receipts of its calls go where they went
-abbrev pub KeepsSlot : {S T : Type 0} → Connection S T → Connection S T → Type 0
-KeepsSlot old new = (new.slot ≡ old.slot) × (new.receipts ≡ old.receipts)
+-- of the connection nothing changes but its connection state, and whether a whole frame may be in the bytes that were read
+abbrev pub ChangesState : {S T : Type 0} → Connection S T → Connection S T → Type 0
+ChangesState old new = new ≡ record old { state = new.state; more = new.more; unread = new.unread }
+
+-- of the connection nothing changes but its socket, its connection state and what follows from these. So no call was asked, its mark
+-- and its place are as they were, and the receipts of its calls go where they went
+abbrev pub ChangesSocket : {S T : Type 0} → Connection S T → Connection S T → Type 0
+ChangesSocket old new = new ≡ record old {
+  stream = new.stream;
+  state = new.state;
+  readiness = new.readiness;
+  heard = new.heard;
+  more = new.more;
+  over = new.over;
+  unread = new.unread;
+}
 
 -- a completion under this number says this: under the number of the connection's last call, the connection state gets the outcome of
 -- its call; under another number nothing changes
 pub record TakesCompletion {S T R : Type 0} (finishes : Finishing T R) (number : ℕ) (reply : R) (old new : Connection S T) : Type 0 where
   pub own : number ≡ old.calls → GetsCompletion finishes reply old.state new.state
   pub another : number ≢ old.calls → new.state ≡ old.state
-  pub calls : new.calls ≡ old.calls
-  pub stream : new.stream ≡ old.stream
-  pub over : new.over ≡ old.over
-  pub readiness : new.readiness ≡ old.readiness
-  pub slot : KeepsSlot old new
+  pub rest : ChangesState old new
 
--- the connection whose key is in this token takes the completion under the number that is there
+-- the connection whose key is in this token takes the completion under the number that is there, and then has something to do
 abbrev pub Delivers : {S T R : Type 0} → Finishing T R → Slab (Connection S T) → Slab (Connection S T) → CallToken → R → Type 0
 Delivers {S} {T} finishes old new token reply =
     (c : Connection S T) → get old token.connection ≡ Some c
-    → (d : Connection S T) × (get new token.connection ≡ Some d) × TakesCompletion finishes token.call reply c d
+    → (d : Connection S T) × (get new token.connection ≡ Some (record d { busy = true })) × TakesCompletion finishes token.call reply c d
 
 -- under this key, the connection has something to do from now on
 abbrev pub Wakes : {S T : Type 0} → Slab (Connection S T) → Slab (Connection S T) → ℕ → Type 0

@@ -8,7 +8,7 @@ use Rattle.craq_event_loop.specs.declared.connection_state.CallRequest.{CallRequ
 use Rattle.craq_seat.specs.declared.token.CallToken.{CallToken}
 use Rattle.craq_event_loop.specs.declared.connection.Connection.{Connection}
 use Rattle.craq_event_loop.specs.Advancing.{TakeRounds}
-use Rattle.craq_event_loop.specs.Belonging.{KeepsSlot, OneByOne, Reads, Writes}
+use Rattle.craq_event_loop.specs.Belonging.{ChangesSocket, OneByOne, Reads, Writes}
 use Rattle.craq_event_loop.specs.Busy.{IsBehind, IsDone}
 use Rattle.craq_event_loop.specs.Sockets.{EndsAsSocket, EndsInOrder, ReadsOn, WritesOn}
 
@@ -19,11 +19,9 @@ pub record HasRead {S T : Type 0} (remaining contents : S → Option (List ℕ))
   pub reads : Reads (remaining old.stream) (remaining new.stream) old.state new.state
   pub waits : (q : CallRequest) → old.state.phase ≡ phases.Waits q → new.state ≡ old.state
   pub taken : contents new.stream ≡ contents old.stream
-  pub calls : new.calls ≡ old.calls
-  pub busy : new.busy ≡ old.busy
   pub over : EndsAsSocket is_over old new
   pub ready : ReadsOn is_dry old new
-  pub slot : KeepsSlot old new
+  pub rest : ChangesSocket old new
 
 -- the bytes that the connection's socket took are the front of those unsent, and no other byte. The bytes that the socket will give
 -- are as they were, and no call was asked. The connection is over just if all its replies are written, or if it was, or its socket
@@ -31,10 +29,9 @@ pub record HasRead {S T : Type 0} (remaining contents : S → Option (List ℕ))
 pub record HasWritten {S T : Type 0} (remaining contents : S → Option (List ℕ)) (is_over is_dry is_full : S → Type 0) (old new : Connection S T) : Type 0 where
   pub writes : Writes (contents old.stream) (contents new.stream) old.state new.state
   pub given : remaining new.stream ≡ remaining old.stream
-  pub calls : new.calls ≡ old.calls
   pub over : EndsInOrder is_over old new
   pub ready : WritesOn is_full old new
-  pub slot : KeepsSlot old new
+  pub rest : ChangesSocket old new
 
 -- under this key, the connection has read
 abbrev pub ReadsAt : {S T : Type 0} → (S → Option (List ℕ)) → (S → Option (List ℕ)) → (S → Type 0) → (S → Type 0) → (S → Type 0) → Slab (Connection S T) → Slab (Connection S T) → ℕ → Type 0

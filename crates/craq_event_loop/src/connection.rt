@@ -201,7 +201,7 @@ impl<S: Socket + Drop, T: Drop> Connection<S, T> {
 
 impl<S: Socket, T> Connection<S, T> {
     ghost use Rattle.craq_event_loop.specs.Advancing.{AsksBackend, HasRound, next_call, under_key};
-    ghost use Rattle.craq_event_loop.specs.Belonging.{GetsOutcome, SendsBytes, SendsNow, ReceivesBytes, ReceivesNow, KeepsSlot, Reads, TakesCompletion, Writes};
+    ghost use Rattle.craq_event_loop.specs.Belonging.{GetsOutcome, SendsBytes, SendsNow, ReceivesBytes, ReceivesNow, ChangesSocket, ChangesState, Reads, TakesCompletion, Writes};
     ghost use Rattle.craq_event_loop.specs.Busy.{GoesOn, IsBehind, IsDone, IsIdle, is_waiting};
     ghost use Rattle.craq_event_loop.specs.SubmittedCalls.{IsReportable, called_by};
     ghost use Rattle.craq_event_loop.specs.Reaching.{CompletesCall};
@@ -217,8 +217,7 @@ impl<S: Socket, T> Connection<S, T> {
 
     /// Has reads go on until one gives nothing: its stream blocks.
     pub(crate) fn read_until_dry(&mut self)
-        ensures stream { self.new.stream ≡ self.old.stream }
-        ensures state { self.new.state ≡ self.old.state }
+        ensures { self.new ≡ record self.old { readiness = record self.old.readiness { until_dry = true } } }
     {
         self.readiness.until_dry = true;
     }
@@ -304,13 +303,7 @@ impl<S: Socket, T> Connection<S, T> {
     fn take_bytes(&mut self, alloc: Global, bytes: &[u8], now: u64)
         requires { self.old.state.phase ≡ Idle }
         ensures receives { ReceivesBytes bytes.now self.old.state self.new.state }
-        ensures stream { self.new.stream ≡ self.old.stream }
-        ensures calls { self.new.calls ≡ self.old.calls }
-        ensures busy { self.new.busy ≡ self.old.busy }
-        ensures over { self.new.over ≡ self.old.over }
-        ensures slot { KeepsSlot self.old self.new }
-        ensures readiness { self.new.readiness ≡ self.old.readiness }
-        ensures heard { self.new.heard ≡ now }
+        ensures rest { ChangesState (record self.old { heard = now }) self.new }
     {
         self.more = true;
         self.heard = now;
@@ -332,12 +325,10 @@ impl<S: Socket, T> Connection<S, T> {
         requires { self.old.state.phase ≡ Idle }
         ensures reads { Reads (S.remaining self.old.stream) (S.remaining self.new.stream) self.old.state self.new.state }
         ensures contents { S.contents self.new.stream ≡ S.contents self.old.stream }
-        ensures calls { self.new.calls ≡ self.old.calls }
-        ensures busy { self.new.busy ≡ self.old.busy }
         ensures over { EndsAsSocket S.is_over self.old self.new }
-        ensures slot { KeepsSlot self.old self.new }
         ensures ready { ReadsOn S.is_dry self.old self.new }
         ensures heard { ReceivesNow now self.old self.new }
+        ensures rest { ChangesSocket self.old self.new }
     {
         match self.stream.take(chunk) {
             Moved::Bytes(count) => {
@@ -358,12 +349,10 @@ impl<S: Socket, T> Connection<S, T> {
         ensures waits { (q : CallRequest) → self.old.state.phase ≡ Waits q → self.new.state ≡ self.old.state }
         ensures reads { Reads (S.remaining self.old.stream) (S.remaining self.new.stream) self.old.state self.new.state }
         ensures contents { S.contents self.new.stream ≡ S.contents self.old.stream }
-        ensures calls { self.new.calls ≡ self.old.calls }
-        ensures busy { self.new.busy ≡ self.old.busy }
         ensures over { EndsAsSocket S.is_over self.old self.new }
-        ensures slot { KeepsSlot self.old self.new }
         ensures ready { ReadsOn S.is_dry self.old self.new }
         ensures heard { ReceivesNow now self.old self.new }
+        ensures rest { ChangesSocket self.old self.new }
     {
         if self.may_read() {
             self.take(alloc, chunk, now);
@@ -374,12 +363,7 @@ impl<S: Socket, T> Connection<S, T> {
     fn given(&mut self, count: usize, now: u64)
         requires { count ≤ length self.old.state.codec.buffers.output.items }
         ensures sends { SendsBytes (take count self.old.state.codec.buffers.output.items) self.old.state self.new.state }
-        ensures stream { self.new.stream ≡ self.old.stream }
-        ensures calls { self.new.calls ≡ self.old.calls }
-        ensures over { self.new.over ≡ self.old.over }
-        ensures slot { KeepsSlot self.old self.new }
-        ensures readiness { self.new.readiness ≡ self.old.readiness }
-        ensures heard { self.new.heard ≡ now }
+        ensures rest { ChangesState (record self.old { heard = now }) self.new }
     {
         self.heard = now;
         self.state.wrote(count);
@@ -402,11 +386,10 @@ impl<S: Socket, T> Connection<S, T> {
     fn write(&mut self, now: u64)
         ensures writes { Writes (S.contents self.old.stream) (S.contents self.new.stream) self.old.state self.new.state }
         ensures remaining { S.remaining self.new.stream ≡ S.remaining self.old.stream }
-        ensures calls { self.new.calls ≡ self.old.calls }
         ensures over { EndsAsSocket S.is_over self.old self.new }
-        ensures slot { KeepsSlot self.old self.new }
         ensures ready { WritesOn S.is_full self.old self.new }
         ensures heard { SendsNow now self.old self.new }
+        ensures rest { ChangesSocket self.old self.new }
     {
         if self.over || !self.readiness.writable || self.state.unsent().is_empty() {
             return;
@@ -427,12 +410,7 @@ impl<S: Socket, T> Connection<S, T> {
         requires { IsReportable outcome }
         ensures reported { GetsOutcome outcome self.old.state self.new.state }
         ensures session { self.new.state.session ≡ self.old.state.session }
-        ensures stream { self.new.stream ≡ self.old.stream }
-        ensures calls { self.new.calls ≡ self.old.calls }
-        ensures busy { self.new.busy ≡ self.old.busy }
-        ensures over { self.new.over ≡ self.old.over }
-        ensures slot { KeepsSlot self.old self.new }
-        ensures readiness { self.new.readiness ≡ self.old.readiness }
+        ensures rest { ChangesState self.old self.new }
     {
         if let Err(refusal) = &outcome {
             backend.refused(self.slot, *refusal);
@@ -451,8 +429,7 @@ impl<S: Socket, T> Connection<S, T> {
         call: u64,
         reply: H::Reply,
     )
-        ensures takes { TakesCompletion (H.finishes backend.now) call reply self.old self.new }
-        ensures busy { self.new.busy ≡ self.old.busy }
+        ensures { TakesCompletion (H.finishes backend.now) call reply self.old self.new }
     {
         if call != self.calls {
             drop(reply);
@@ -467,7 +444,7 @@ impl<S: Socket, T> Connection<S, T> {
     #[tactic(auto, using(crate::proofs::OwnThread::own_completion, crate::proofs::OwnThread::no_completion))]
     pub(crate) fn complete<B: BlockingBackend<Session = T>>(&mut self, alloc: Global, backend: &B)
         ensures outcome { CompletesCall (B.finishes backend.now) self.old.state self.new.state }
-        ensures stream { self.new.stream ≡ self.old.stream }
+        ensures rest { ChangesState self.old self.new }
     {
         if !self.waits() {
             return;
@@ -488,12 +465,7 @@ impl<S: Socket, T> Connection<S, T> {
         origin: CallOrigin,
     )
         ensures asked { AsksBackend (H.refuses backend.now) (under_key (called_by (H.submits backend.now) (H.finishes backend.now)) origin.key (next_call self.old.calls)) self.old.state.phase self.old.state self.new.state }
-        ensures calls { self.new.calls ≡ next_call self.old.calls }
-        ensures stream { self.new.stream ≡ self.old.stream }
-        ensures busy { self.new.busy ≡ self.old.busy }
-        ensures over { self.new.over ≡ self.old.over }
-        ensures slot { KeepsSlot self.old self.new }
-        ensures readiness { self.new.readiness ≡ self.old.readiness }
+        ensures rest { ChangesState (record self.old { calls = next_call self.old.calls }) self.new }
     {
         self.calls = self.calls.wrapping_add(1);
         let token = CallToken {
@@ -517,11 +489,7 @@ impl<S: Socket, T> Connection<S, T> {
         share: Share,
     )
         ensures round { HasRound share.steps (H.tells backend.now) (H.refuses backend.now) (under_key (called_by (H.submits backend.now) (H.finishes backend.now)) key) self.old.over self.old.state self.old.calls self.new.state self.new.calls }
-        ensures stream { self.new.stream ≡ self.old.stream }
-        ensures busy { self.new.busy ≡ self.old.busy }
-        ensures over { self.new.over ≡ self.old.over }
-        ensures slot { KeepsSlot self.old self.new }
-        ensures readiness { self.new.readiness ≡ self.old.readiness }
+        ensures rest { ChangesState (record self.old { calls = self.new.calls }) self.new }
     {
         if self.over {
             return;
@@ -554,11 +522,10 @@ impl<S: Socket, T> Connection<S, T> {
     pub(crate) fn give(&mut self, now: u64)
         ensures writes { Writes (S.contents self.old.stream) (S.contents self.new.stream) self.old.state self.new.state }
         ensures remaining { S.remaining self.new.stream ≡ S.remaining self.old.stream }
-        ensures calls { self.new.calls ≡ self.old.calls }
         ensures over { EndsInOrder S.is_over self.old self.new }
-        ensures slot { KeepsSlot self.old self.new }
         ensures ready { WritesOn S.is_full self.old self.new }
         ensures heard { SendsNow now self.old self.new }
+        ensures rest { ChangesSocket self.old self.new }
     {
         self.write(now);
         if self.has_said_all() {

@@ -7,4 +7,4 @@ pub returns-clause-run_once : goal.returns-clause-run_once
 returns-clause-run_once g c =
     turned_at c.args.share.steps (g.H.Backend.tells c.args.backend.now) (g.H.Backend.refuses c.args.backend.now) (called_by (g.H.AsyncBackend.submits c.args.backend.now) (g.H.AsyncBackend.finishes c.args.backend.now))
     c.args.connections.now c.args.key c.in-Some.connection.now c.advance.new.self
-    (sym c.in-Some.ensures.value) c.advance.ensures.round c.advance.ensures.stream c.advance.ensures.over c.advance.ensures.busy c.advance.ensures.slot c.advance.ensures.readiness
+    (sym c.in-Some.ensures.value) c.advance.ensures.round c.advance.ensures.rest

@@ -7,13 +7,13 @@ use Rattle.craq_event_loop.proofs.event_loop.give_at.Goals as goal
 pub returns-then-not-is_done-clause-writes : goal.returns-then-not-is_done-clause-writes
 returns-then-not-is_done-clause-writes g c =
     kept_at g.S.Socket.remaining g.S.Socket.contents g.S.Socket.is_over g.S.Socket.is_dry g.S.Socket.is_full c.args.connections.now c.args.key c.in-Some.connection.now c.give.new.self c.stays_busy.new.self c.stays_busy.result
-    (sym c.in-Some.ensures.value) (record { writes = c.give.ensures.writes; given = c.give.ensures.remaining; calls = c.give.ensures.calls; over = c.give.ensures.over; ready = c.give.ensures.ready; slot = c.give.ensures.slot })
+    (sym c.in-Some.ensures.value) (record { writes = c.give.ensures.writes; given = c.give.ensures.remaining; over = c.give.ensures.over; ready = c.give.ensures.ready; rest = c.give.ensures.rest })
     (reported_not c.is_done.result c.is_done.ensures c.if-not-is_done.true) c.stays_busy.ensures.marked c.stays_busy.ensures.behind
 
 pub returns-in-Some-try_remove-clause-writes : goal.returns-in-Some-try_remove-clause-writes
 returns-in-Some-try_remove-clause-writes g c =
     gone_at g.S.Socket.remaining g.S.Socket.contents g.S.Socket.is_over g.S.Socket.is_dry g.S.Socket.is_full c.args.connections.now c.try_remove.new.self c.args.key c.in-Some.connection.now c.give.new.self
-    (sym c.in-Some.ensures.value) (record { writes = c.give.ensures.writes; given = c.give.ensures.remaining; calls = c.give.ensures.calls; over = c.give.ensures.over; ready = c.give.ensures.ready; slot = c.give.ensures.slot })
+    (sym c.in-Some.ensures.value) (record { writes = c.give.ensures.writes; given = c.give.ensures.remaining; over = c.give.ensures.over; ready = c.give.ensures.ready; rest = c.give.ensures.rest })
     (c.is_done.ensures.0 c.if-not-is_done.false) c.try_remove.ensures.updates.changed
 
 pub close-requires : goal.close-requires

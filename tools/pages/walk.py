@@ -25,7 +25,7 @@ def walk(checks):
     for column in (1, 2):
         way = way_of(part, column)
         files, crates, changes = counts_of(way)
-        wanted = f"{len(way)} functions, {files} files, {crates} crates, {changes} changes of file"
+        wanted = f"{len(set(way))} functions, {files} files, {crates} crates, {changes} changes of file"
         checks.that(wanted in " ".join(part.split()), f"{PAGE} has to say: {wanted}")
         checks.that(files <= MOST_FILES and crates <= MOST_CRATES and changes <= MOST_CHANGES,
                     f"{PAGE}: a put passes more than {MOST_FILES} files, {MOST_CRATES} crates or "

@@ -446,9 +446,10 @@ impl<T> ConnectionState<T> {
         }
     }
 
-    /// Takes bytes that came. Finds the first request of the payload in front at once in a read of
-    /// 1,024 bytes or more. Leaves a shorter read to `step`, which looks for the next frame. Fails
-    /// only when out of memory; the bytes are lost then, and it is over.
+    /// Takes bytes that came. Finds the first request at once in a read of 1,024 bytes or more that
+    /// begins with a whole payload, if no bytes wait before it. Leaves any other read to `step`,
+    /// which looks for the next frame. Fails only when out of memory; the bytes are lost then, and
+    /// it is over.
     pub(crate) fn receive(&mut self, alloc: Global, bytes: &[u8]) -> Result<(), AllocError>
         requires { self.old.phase ≡ Phase.Idle }
         ensures holds { (read written : List ℕ) (turns : Exchanges)

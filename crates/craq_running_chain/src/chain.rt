@@ -180,8 +180,8 @@ impl<C: Core + Named> Chain<C> {
         }
     }
 
-    /// Queues a request for a node. Refused as `node` is, with `Stopped` also for a removed node
-    /// that is kept; no completion comes then.
+    /// Queues a request for a node, where `take_waiting` finds it (`run_chain_thread`). Refused as
+    /// `node` is, with `Stopped` also for a removed node that is kept; no completion comes then.
     pub(crate) fn enqueue<R: Wait>(
         &self,
         rt: &R,

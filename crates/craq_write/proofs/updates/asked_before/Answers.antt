@@ -11,8 +11,8 @@ returns-then-not-has_place g c =
     let none : has_place p (length_of p) (position_of p c.args.client) ≡ false = cc in
     inr (known_refused p (position_of p c.args.client) c.args.reply.now none)
 
-pub returns-in_err-plan : goal.returns-in_err-plan
-returns-in_err-plan g c =
+pub returns-in_err-computed : goal.returns-in_err-computed
+returns-in_err-computed g c =
     let p = plain_of g.H.History.past c.args.node.now in
     let some : has_place p (length_of p) (position_of p c.args.client) ≡ true = cc in
     lacks_memory p c.from_residual.result _ c.from_residual.ensures (known_taken p (position_of p c.args.client) c.args.reply.now some)

@@ -32,13 +32,13 @@ returns-in_err-entry g c =
     let some : has_place p (length_of p + 1) (length_of p + 1) ≡ true = cc in
     lacks_memory p c.from_residual.result _ c.from_residual.ensures (update_taken p c.args.update (λ e. c.if-length.false cc) versions some)
 
-pub returns-in_err-plan : goal.returns-in_err-plan
+pub returns-in_err-computed : goal.returns-in_err-computed
 unfolding newest
-returns-in_err-plan g c =
+returns-in_err-computed g c =
     let p = plain_of g.H.History.past c.args.node.now in
     let versions : some_used_up (newest p).objects (objects_named c.args.update.command) ≡ false = c.check.ensures.found ∙ ap (λ (o : Option Checked). is_none o) c.in-Some.is in
     let some : has_place p (length_of p + 1) (length_of p + 1) ≡ true = cc in
-    lacks_memory p c.from_residual-in_err-plan.result _ c.from_residual-in_err-plan.ensures (update_taken p c.args.update (λ e. c.if-length.false cc) versions some)
+    lacks_memory p c.from_residual-in_err-computed.result _ c.from_residual-in_err-computed.ensures (update_taken p c.args.update (λ e. c.if-length.false cc) versions some)
 
 pub returns : goal.returns
 unfolding newest
@@ -48,4 +48,4 @@ returns g c =
     let versions : some_used_up (newest p).objects (objects_named u.command) ≡ false = c.check.ensures.found ∙ ap (λ (o : Option Checked). is_none o) c.in-Some.is in
     let is : c.in_ok-entry.entry ≡ entry_of p u (eval (newest p).objects u.command) = c.in_ok-entry.ensures ∙ ap (λ (o : List Write × Reply). entry_with p u.client u.number o) c.in-Some.ensures.same in
     let transition : new_update_transition p c.in_ok-entry.entry ≡ update_transition p u None = ap (λ (e : Entry). new_update_transition p e) is ∙ sym (update_entered p u (λ e. c.if-length.false cc) versions) in
-    subst (λ (w : Result Transition Refusal). IsComputed p c.in_ok-plan.plan w) transition c.in_ok-plan.ensures
+    subst (λ (w : Result Transition Refusal). IsComputed p c.in_ok-computed.computed w) transition c.in_ok-computed.ensures

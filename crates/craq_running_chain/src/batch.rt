@@ -205,8 +205,8 @@ impl<'a, C: Core + Named, G: Gate> NodeBatch<'a, C, G> {
         }
     }
 
-    /// Takes the step on a tick, which sends again each entry that is not acknowledged. Returns
-    /// whether it was taken.
+    /// Takes the step on a tick, which sends again each entry that is not acknowledged. Returns true
+    /// if it was taken.
     fn tick<R: Wait>(&mut self, rt: &R) -> bool
         ensures reacts { ReactsTo C.represents (mutex_guard_value self.old.seated) (mutex_guard_value self.new.seated) Event.Tick self.old.replies self.new.replies }
         ensures owed { self.new.owed ≡ self.old.owed }

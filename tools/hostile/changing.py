@@ -31,7 +31,7 @@ NOT_READY = 10
 OPEN = (*example.PASSING, NOT_READY)
 # The forms of a store, by the word of its program, in words: who takes the steps of its nodes. That
 # of craqd, however it serves, is USUAL.
-FORMS = {"workers": "two threads a node", "chain-thread": "one thread a chain"}
+FORMS = {"workers": "two threads a node", "chain-thread": "two threads a chain"}
 USUAL = "chain-thread"
 
 

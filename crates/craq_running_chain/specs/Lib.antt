@@ -1,4 +1,5 @@
 pub mod Asks
 pub mod Batches
+pub mod Loads
 pub mod Missed
 pub mod Resting

@@ -1,6 +1,7 @@
 //! `NodeBatch`: a batch of steps of a node under its lock, and what these steps send. And the chain
-//! thread, which takes rounds of batches, from the head to the tail and back. Called by `work`, and
-//! by `shared` for a caller that carries its own step on.
+//! thread, which takes rounds of batches, from the head to the tail and back; with the second thread,
+//! which then takes those behind the head. Called by `work`, and by `shared` for a caller that
+//! carries its own step on.
 ghost use Rattle.std.specs.Sync.Mutex.{mutex_guard_value};
 ghost use Rattle.std.specs.Prelude.{◌≡◌, ◌⊎◌, ℕ, [], None, Some, false};
 ghost use Rattle.craq_locked_chain.specs.Held.{cell_in};
@@ -12,6 +13,7 @@ ghost use Rattle.craq_running_chain.specs.Batches.{TakesMessage, HoldsBack, Owes
 
 use crate::chain::Chain;
 use crate::held_back::HeldBack;
+use crate::help::HeadLoad;
 use crate::shared::{Shared, Wakes};
 use craq_ghost_history::Named;
 use craq_model::Event;
@@ -24,6 +26,7 @@ use craq_running_node::{
 };
 use craq_store_parts::{Gate, Work};
 use std::alloc::Global;
+use std::hint::spin_loop;
 use std::mem;
 use std::sync::{Arc, MutexGuard, Wait};
 
@@ -32,10 +35,14 @@ use std::sync::{Arc, MutexGuard, Wait};
 const MESSAGES: u32 = 32;
 
 /// The most requests of one batch of a node: as many as one message has entries.
-const ASKS: u32 = 16;
+pub(crate) const ASKS: u32 = 16;
 
 /// The most rounds that a caller takes in the chain thread's place.
 const ROUNDS: u32 = 8;
+
+/// The looks of a chain thread for what waits at the head, while the second thread is called: some
+/// 100 microseconds.
+const LOOKS: u32 = 2_000;
 
 /// The way out of a node, for what its batch sends.
 #[derive(Drop)]
@@ -341,12 +348,13 @@ impl<'a, C: Core + Named, G: Gate> NodeBatch<'a, C, G> {
     }
 }
 
-/// Takes what waits at a node in a batch: messages first, then requests.
+/// Takes what waits at a node in a batch: messages first, then requests. Returns the number of
+/// requests.
 fn take_waiting<R: Wait, C: Core + Named, G: Gate>(
     rt: &R,
     node: &RunningNode<C>,
     batch: &mut NodeBatch<'_, C, G>,
-) {
+) -> u32 {
     for _ in 0..MESSAGES {
         let Some(waiting) = node.inbox.next(rt) else {
             break;
@@ -355,31 +363,51 @@ fn take_waiting<R: Wait, C: Core + Named, G: Gate>(
             batch.take_brought(rt, brought);
         }
     }
+    let mut taken = 0u32;
     for _ in 0..ASKS {
         let Some(asked) = node.inbox.next_ask(rt) else {
             break;
         };
         batch.take_asked(rt, asked);
+        taken = taken.saturating_add(1);
     }
+    taken
 }
 
-/// Takes a batch of a node, if anything waits there. Returns whether anything did.
+/// Takes a batch of a node, if anything waits there. Returns the number of requests that it took.
 fn visit<R: Wait, C: Core + Named, G: Gate>(
     rt: &R,
     shared: &Shared<C, G>,
     node: &RunningNode<C>,
-) -> bool {
+    wakes: Wakes,
+) -> Option<u32> {
     if node.inbox.is_empty() {
-        return false;
+        return None;
     }
     let count = node.next_piece();
     shared.gate.before(node.name, Work::Asks, count);
-    let mut batch = NodeBatch::begin(shared, node, node.lock(rt), Wakes::Nobody);
+    let mut batch = NodeBatch::begin(shared, node, node.lock(rt), wakes);
     shared.gate.within(node.name, Work::Asks, count);
-    take_waiting(rt, node, &mut batch);
+    let taken = take_waiting(rt, node, &mut batch);
     batch.end(rt);
     shared.gate.after(node.name, Work::Asks, count);
-    true
+    Some(taken)
+}
+
+/// Takes a batch of each of these nodes, there and back. Returns whether anything waited.
+fn visit_behind<R: Wait, C: Core + Named, G: Gate>(
+    rt: &R,
+    shared: &Shared<C, G>,
+    behind: &[Arc<RunningNode<C>>],
+    wakes: Wakes,
+) -> bool {
+    let mut found = false;
+    for node in behind.iter().chain(behind.iter().rev()) {
+        if visit(rt, shared, node, wakes).is_some() {
+            found = true;
+        }
+    }
+    found
 }
 
 /// Takes a batch of each node from the head to the tail, and back to the one after the head.
@@ -390,21 +418,44 @@ fn visit_all<R: Wait, C: Core + Named, G: Gate>(
     rt: &R,
     shared: &Shared<C, G>,
     nodes: &[Arc<RunningNode<C>>],
+    load: &mut HeadLoad,
 ) -> bool {
-    let Some((_, after)) = nodes.split_first() else {
+    let Some((head, behind)) = nodes.split_first() else {
         return false;
     };
-    let mut found = false;
-    for node in nodes.iter().chain(after.iter().rev()) {
-        if visit(rt, shared, node) {
-            found = true;
+    let at_head = visit(rt, shared, head, Wakes::Nobody);
+    if let Some(taken) = at_head {
+        load.note_alone(taken);
+    }
+    visit_behind(rt, shared, behind, Wakes::Nobody) || at_head.is_some()
+}
+
+/// Takes a batch of the head, while the second thread takes the nodes behind it. Looks `LOOKS` times
+/// for what waits at the head. Returns whether anything did.
+fn visit_head<R: Wait, C: Core + Named, G: Gate>(
+    rt: &R,
+    shared: &Shared<C, G>,
+    nodes: &[Arc<RunningNode<C>>],
+    load: &mut HeadLoad,
+) -> bool {
+    let Some((head, _)) = nodes.split_first() else {
+        return false;
+    };
+    for _ in 0..LOOKS {
+        match visit(rt, shared, head, Wakes::Nobody) {
+            Some(taken) => {
+                load.note_helped(taken);
+                return true;
+            }
+            None => spin_loop(),
         }
     }
-    found
+    false
 }
 
 /// Runs a chain until its store is closed: takes batches of its nodes as long as anything waits,
-/// then sleeps. Out of memory for the list of the nodes, waits a little and tries again.
+/// then sleeps. Out of memory for the list of the nodes, waits a little and tries again. Calls the
+/// second thread while many requests wait at the head.
 pub(crate) fn run_chain_thread<R: Wait, C: Core + Named, G: Gate>(
     rt: &R,
     shared: &Shared<C, G>,
@@ -423,7 +474,19 @@ pub(crate) fn run_chain_thread<R: Wait, C: Core + Named, G: Gate>(
     }
 }
 
-/// Runs these nodes until the chain has others.
+/// Calls the second thread, or takes the call back, by the load of the head.
+fn follow_load<C: Core + Named>(chain: &Chain<C>, load: &HeadLoad) {
+    if chain.help.is_called() {
+        if load.is_low() {
+            chain.help.end();
+        }
+    } else if load.is_high() {
+        chain.help.call();
+    }
+}
+
+/// Runs these nodes until the chain has others: all of them, or the head alone while the second
+/// thread is called. It is called only while this thread is awake.
 fn run_nodes<R: Wait, C: Core + Named, G: Gate>(
     rt: &R,
     shared: &Shared<C, G>,
@@ -431,11 +494,17 @@ fn run_nodes<R: Wait, C: Core + Named, G: Gate>(
     nodes: &[Arc<RunningNode<C>>],
     changes: u64,
 ) {
+    let mut load = HeadLoad::new();
     for _ in rt.forever() {
         if chain.wake_up.changes() != changes {
             break;
         }
-        if visit_all(rt, shared, nodes) {
+        follow_load(chain, &load);
+        if chain.help.is_called() && visit_head(rt, shared, nodes, &mut load) {
+            continue;
+        }
+        chain.help.end();
+        if visit_all(rt, shared, nodes, &mut load) {
             continue;
         }
         chain.wake_up.doze();
@@ -443,6 +512,50 @@ fn run_nodes<R: Wait, C: Core + Named, G: Gate>(
             chain.wake_up.rouse();
         } else {
             chain.wake_up.sleep(rt);
+        }
+    }
+    chain.help.end();
+}
+
+/// Runs a chain's second thread until its store is closed: sleeps until the chain thread calls it.
+/// Out of memory for the list of the nodes, takes the call back.
+pub(crate) fn run_second_thread<R: Wait, C: Core + Named, G: Gate>(
+    rt: &R,
+    shared: &Shared<C, G>,
+    id: ChainId,
+) {
+    let Ok(chain) = shared.chain(id) else {
+        return;
+    };
+    for _ in rt.forever() {
+        chain.help.sleep(rt);
+        let changes = chain.wake_up.changes();
+        match chain.nodes(rt, shared.alloc) {
+            Ok(nodes) => help_nodes(rt, shared, chain, nodes.as_slice(), changes),
+            Err(Refusal::Closed) => break,
+            Err(_) => chain.help.end(),
+        }
+    }
+}
+
+/// Runs the nodes behind the head, as long as the chain thread calls for it and the chain has no
+/// others. Where nothing waits it looks again at once.
+fn help_nodes<R: Wait, C: Core + Named, G: Gate>(
+    rt: &R,
+    shared: &Shared<C, G>,
+    chain: &Chain<C>,
+    nodes: &[Arc<RunningNode<C>>],
+    changes: u64,
+) {
+    let Some((_, behind)) = nodes.split_first() else {
+        return;
+    };
+    for _ in rt.forever() {
+        if !chain.help.is_called() || chain.wake_up.changes() != changes {
+            break;
+        }
+        if !visit_behind(rt, shared, behind, Wakes::ChainThread) {
+            spin_loop();
         }
     }
 }
@@ -460,8 +573,9 @@ pub(crate) fn run_inline<R: Wait, C: Core + Named, G: Gate>(
         chain.wake_up.wake();
         return;
     };
+    let mut load = HeadLoad::new();
     for _ in 0..ROUNDS {
-        if !visit_all(rt, shared, nodes.as_slice()) {
+        if !visit_all(rt, shared, nodes.as_slice(), &mut load) {
             break;
         }
     }

@@ -8,6 +8,7 @@ ghost use Rattle.craq_seat.specs.Books.{first_master, members_of};
 ghost use Rattle.craq_running_chain.specs.Missed.{IsMissed};
 ghost use Rattle.craq_running_node.specs.Routes.{retired, shut};
 
+use crate::help::Help;
 use crate::rest::Rest;
 use crate::wake_up::WakeUp;
 use craq_ghost_history::Named;
@@ -42,7 +43,8 @@ pub struct Open {
 }
 
 /// A chain that runs, as its threads and its callers share it: its master under a lock, the routes to
-/// its nodes, the wake-up of its chain thread, and the ticks since it last had work.
+/// its nodes, the wake-up of its chain thread, the call of its second thread, and the ticks since it
+/// last had work.
 #[derive(Drop)]
 pub struct Chain<C: Core + Named> {
     pub name: String,
@@ -51,6 +53,7 @@ pub struct Chain<C: Core + Named> {
     pub book: Mutex<ChainBook<C>>,
     pub routes: RwLock<RoutingTable<C>>,
     pub wake_up: WakeUp,
+    pub help: Help,
     pub rest: Rest,
 }
 
@@ -295,11 +298,12 @@ impl<C: Core + Named> Chain<C> {
         self.routes.write(rt).retire(id, removed);
     }
 
-    /// Lets nothing in from now on. The workers end once their queues are empty. A chain thread
-    /// ends after its batch, and `sweep` refuses the requests that are queued then.
+    /// Lets nothing in from now on. The workers end once their queues are empty. The two threads of
+    /// the chain end after their batches, and `sweep` refuses the requests that are queued then.
     pub fn close<R: Wait>(&self, rt: &R) {
         self.routes.write(rt).close();
         self.wake_up.change();
+        self.help.wake();
     }
 
     /// Refuses with `Closed` all callers that still wait, and all that ask later. Called once no

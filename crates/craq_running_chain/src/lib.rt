@@ -6,12 +6,14 @@
 mod batch;
 mod chain;
 mod held_back;
+mod help;
 mod rest;
 mod shared;
 mod wake_up;
 mod work;
 
 pub use chain::{Chain, Open, RoutingTable, refuse_queued};
+pub use help::Help;
 pub use rest::Rest;
 pub use shared::{AskedChain, Shared, Wakes, possible_refusal};
 pub use wake_up::WakeUp;

@@ -31,7 +31,7 @@ pub struct Shared<C: Core + Named, G: Gate> {
     /// Gives the rights to the entries of nodes and clients.
     pub registrar: Mutex<Registrar<HistoryEntry, StoreRule, C>>,
     pub gate: G,
-    /// One thread runs each chain: the gate's reply when the store started.
+    /// Each chain has threads that run it: the gate's reply when the store started.
     pub chain_threads: bool,
     /// By id.
     pub chains: Vec<Chain<C>>,

@@ -2,7 +2,7 @@
 //! store of `craq_workers` makes.
 ghost use Rattle.std.specs.Prelude.{◌≡◌};
 
-use crate::batch::{NodeBatch, run_chain_thread};
+use crate::batch::{NodeBatch, run_chain_thread, run_second_thread};
 use crate::chain::Chain;
 use crate::shared::{Shared, Wakes};
 use craq_ghost_history::Named;
@@ -22,11 +22,13 @@ pub enum Worker<C: Core + Named> {
     Links(Arc<RunningNode<C>>),
     /// Takes what waits at the nodes of a chain, one batch after another.
     ChainThread(ChainId),
+    /// Takes what waits at the nodes behind the head, while the chain thread calls it.
+    SecondThread(ChainId),
     /// Takes the ticks of a chain's master.
     Master(ChainId, Receiver<()>),
 }
 
-/// Works until no sender is left, or, as a chain thread, until the store is closed. Drops `alive`
+/// Works until no sender is left, or, as a thread of a chain, until the store is closed. Drops `alive`
 /// last, since `close` waits for that.
 pub fn run_worker<R: Wait, C: Core + Named, G: Gate>(
     rt: &R,
@@ -38,6 +40,7 @@ pub fn run_worker<R: Wait, C: Core + Named, G: Gate>(
         Worker::Asks(node) => take_asks(rt, &shared, &node),
         Worker::Links(node) => take_links(rt, &shared, &node),
         Worker::ChainThread(chain) => run_chain_thread(rt, &shared, chain),
+        Worker::SecondThread(chain) => run_second_thread(rt, &shared, chain),
         Worker::Master(chain, ticks) => take_ticks(rt, &shared, chain, &ticks),
     }
     drop(shared);

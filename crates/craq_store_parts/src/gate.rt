@@ -39,10 +39,11 @@ pub trait Gate: Drop {
         false
     }
 
-    /// Returns whether one thread for each chain takes the steps of all its nodes. Callers then
-    /// take the steps of their reads themselves, and, while that thread sleeps, those of few
-    /// updates. If not, two threads of each node take all steps: one those of requests, one those
-    /// of messages and ticks. A store asks this once, when it starts.
+    /// Returns whether a chain thread takes the steps of all nodes of its chain, and a second thread
+    /// those of the nodes behind a busy head. Callers then take the steps of their reads themselves,
+    /// and, while the chain thread sleeps, those of few updates. If not, two threads of each node
+    /// take all steps: one those of requests, one those of messages and ticks. A store asks this
+    /// once, when it starts.
     fn chain_threads(&self) -> bool {
         false
     }
@@ -51,7 +52,7 @@ pub trait Gate: Drop {
 /// A gate that neither delays work nor loses messages.
 #[derive(Drop)]
 pub struct OpenGate {
-    /// One thread for each chain takes the steps of all its nodes.
+    /// The two threads of each chain take the steps of all its nodes.
     pub chain_threads: bool,
 }
 

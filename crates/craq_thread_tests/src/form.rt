@@ -13,11 +13,11 @@ pub enum Form {
 /// All forms, in words.
 pub const FORMS: [(Form, &str); 2] = [
     (Form::Workers, "two threads a node"),
-    (Form::ChainThread, "one thread a chain"),
+    (Form::ChainThread, "two threads a chain"),
 ];
 
 impl Form {
-    /// Returns true if one thread runs the steps of a whole chain.
+    /// Returns true if the chain's own threads run its steps.
     pub fn is_chain_thread(self) -> bool {
         matches!(self, Form::ChainThread)
     }

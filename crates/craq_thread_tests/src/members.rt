@@ -10,11 +10,11 @@ use std::sync::Wait;
 use std::thread::Threads;
 
 /// Returns the system's report of this process with a store of three nodes: the main thread and
-/// that of a case, two threads for each node or one for the chain, and one for the master.
+/// that of a case, two threads for each node or two for the chain, and one for the master.
 fn with_store(form: Form) -> &'static str {
     match form {
         Form::Workers => "\nThreads:\t9\n",
-        Form::ChainThread => "\nThreads:\t4\n",
+        Form::ChainThread => "\nThreads:\t5\n",
     }
 }
 
@@ -22,7 +22,7 @@ fn with_store(form: Form) -> &'static str {
 fn with_two_nodes(form: Form) -> &'static str {
     match form {
         Form::Workers => "\nThreads:\t7\n",
-        Form::ChainThread => "\nThreads:\t4\n",
+        Form::ChainThread => "\nThreads:\t5\n",
     }
 }
 

@@ -52,7 +52,7 @@ pub const MANNERS: [(Manner, &str); 2] = [
     ),
 ];
 
-/// Returns the gate of a store that is served: one thread runs each chain, as in `craqd`.
+/// Returns the gate of a store that is served: its threads run each chain, as in `craqd`.
 fn served_gate() -> OpenGate {
     OpenGate {
         chain_threads: true,

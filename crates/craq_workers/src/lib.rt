@@ -1,4 +1,4 @@
-//! A store that runs. Its nodes' steps are taken by threads of the nodes, or by one thread for each
+//! A store that runs. Its nodes' steps are taken by threads of the nodes, or by two threads for each
 //! chain and by callers; each chain's master has a thread. Links between nodes are channels.
 //! Clients call from any thread. `craq_running_chain` and `craq_running_node` do the work of the
 //! threads; here a store starts, changes and ends.

@@ -20,7 +20,7 @@ use craq_model::Config;
 use craq_names::{ChainId, Copied, NodeId, NodeName, Refusal, Stamp};
 use craq_node::Core;
 use craq_place::{MOST_CHAINS, Plan};
-use craq_running_chain::{Chain, Open, Rest, RoutingTable, WakeUp, Worker, master_of};
+use craq_running_chain::{Chain, Help, Open, Rest, RoutingTable, WakeUp, Worker, master_of};
 use craq_running_node::{RecordedDesk, Removed, Route, RunningNode, open_inbox};
 use craq_seat::{BookCell, Cell, Desk};
 use craq_store_history::{HistoryEntry, StoreRule};
@@ -34,7 +34,7 @@ use std::sync::{Arc, Mutex, RwLock, Wait};
 pub(crate) struct Form {
     /// The cells keep journals.
     pub journal: bool,
-    /// One thread for each chain takes all that waits at its nodes. If not, each node has two: one
+    /// Two threads for each chain take all that waits at its nodes. If not, each node has two: one
     /// takes the requests that are queued for it, one what arrives there.
     pub chain_threads: bool,
 }
@@ -103,9 +103,9 @@ pub(crate) fn add_workers<C: Core + Named>(
     Ok(())
 }
 
-/// Adds the worker of a whole chain behind those that are there, if the store has such workers.
+/// Adds the two workers of a whole chain behind those that are there, if the store has such workers.
 /// Fails only when out of memory.
-fn add_chain_thread<C: Core + Named>(
+fn add_chain_threads<C: Core + Named>(
     chain: ChainId,
     form: Form,
     workers: &mut Vec<Worker<C>>,
@@ -116,6 +116,7 @@ fn add_chain_thread<C: Core + Named>(
         return Ok(());
     }
     workers.push(Worker::ChainThread(chain))?;
+    workers.push(Worker::SecondThread(chain))?;
     Ok(())
 }
 
@@ -195,7 +196,7 @@ impl<'a, R: Wait, C: Core + Named> Opener<'a, R, C> {
         ensures workers { IfOk result (λ _. map post_of workers.new.items ≡ map post_of workers.old.items ++ member_posts self.now.form.chain_threads chain config.now.members) }
         ensures err { IfErr result (λ e. e ≡ Refusal.Memory) }
     {
-        add_chain_thread(chain, self.form, workers)?;
+        add_chain_threads(chain, self.form, workers)?;
         let mut token = token;
         let mut nodes = Vec::new(self.alloc);
         for node in config.members.as_slice() {
@@ -257,6 +258,7 @@ impl<'a, R: Wait, C: Core + Named> Opener<'a, R, C> {
                 open: Some(Open { master, alive }),
             }),
             wake_up: WakeUp::new(),
+            help: Help::new(),
             rest: Rest::new(),
         })
     }

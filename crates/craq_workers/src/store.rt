@@ -55,11 +55,11 @@ pub struct ChainStatus {
     pub config: Config,
 }
 
-/// A store that runs. It has one thread for each chain (`Gate::chain_threads`), or two for each
+/// A store that runs. It has two threads for each chain (`Gate::chain_threads`), or two for each
 /// node, and one for each chain's master.
 ///
 /// It has no drop: `close` ends it. A contract sees the names of its chains and their masters as
-/// they were opened, by id, whether it keeps journals, and whether each chain has a thread. It does
+/// they were opened, by id, whether it keeps journals, and whether each chain has threads. It does
 /// not see what is behind locks and channels.
 pub struct Store<C: Core + Named, G: Gate> {
     pub(crate) alloc: Global,

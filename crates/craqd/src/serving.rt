@@ -412,7 +412,7 @@ where
     Ok(())
 }
 
-/// Returns the hooks of the store: one thread runs each chain.
+/// Returns the hooks of the store: the two threads of each chain run it.
 const fn gate() -> OpenGate
     ensures { result ≡ record { chain_threads = true } }
 {

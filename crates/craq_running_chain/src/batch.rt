@@ -41,8 +41,8 @@ pub(crate) const ASKS: u32 = 16;
 const ROUNDS: u32 = 8;
 
 /// The looks of a chain thread for what waits at the head, while the second thread is called: some
-/// 100 microseconds.
-const LOOKS: u32 = 2_000;
+/// 500 microseconds.
+const LOOKS: u32 = 10_000;
 
 /// The way out of a node, for what its batch sends.
 #[derive(Drop)]

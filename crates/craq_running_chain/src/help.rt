@@ -9,10 +9,7 @@ use std::sync::atomic::{AtomicBool, Ordering};
 use std::thread::Parker;
 
 /// The load from which on a second thread is worth its cost. This project's profile.
-const MOST_LOAD: u32 = 32;
-
-/// The full batches that one makes up for which is not full. This project's profile.
-const SLACK: u32 = 8;
+const MOST_LOAD: u32 = 128;
 
 /// The requests of a batch from which on a second thread stays. This project's profile.
 const ENOUGH: u32 = 6;
@@ -61,9 +58,8 @@ impl Help {
     }
 }
 
-/// The load of a chain's head. While one thread takes all nodes: the full batches less eight times the
-/// others. While a second one helps: the batches with enough requests less the others. At least 0 and
-/// at most `MOST_LOAD`.
+/// The load of a chain's head. While one thread takes all nodes: the last full batches in a row. While
+/// a second one helps: the batches with enough requests less the others. At most `MOST_LOAD`.
 #[derive(Debug, Clone, Copy)]
 pub(crate) struct HeadLoad {
     load: u32,
@@ -84,7 +80,7 @@ impl HeadLoad {
     {
         match taken {
             0 => {}
-            _ if taken < ASKS => self.load = self.load.saturating_sub(SLACK),
+            _ if taken < ASKS => self.load = 0,
             _ => self.load = self.load.saturating_add(1).min(MOST_LOAD),
         }
     }

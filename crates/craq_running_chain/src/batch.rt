@@ -1,7 +1,7 @@
 //! `NodeBatch`: a batch of steps of a node under its lock, and what these steps send. And the chain
-//! thread, which takes rounds of batches, from the head to the tail and back; with the second thread,
-//! which then takes those behind the head. Called by `work`, and by `shared` for a caller that
-//! carries its own step on.
+//! thread, which takes rounds of batches, from the head to the tail and back. While the head is
+//! busy, the second thread takes the nodes behind it. Called by `work`, and by `shared` for a caller
+//! that carries its own step on.
 ghost use Rattle.std.specs.Sync.Mutex.{mutex_guard_value};
 ghost use Rattle.std.specs.Prelude.{◌≡◌, ◌⊎◌, ℕ, [], None, Some, false};
 ghost use Rattle.craq_locked_chain.specs.Held.{cell_in};
@@ -40,8 +40,8 @@ pub(crate) const ASKS: u32 = 16;
 /// The most rounds that a caller takes in the chain thread's place.
 const ROUNDS: u32 = 8;
 
-/// The looks of a chain thread for what waits at the head, while the second thread is called: some
-/// 500 microseconds.
+/// The most looks of a chain thread for what waits at the head, while the second thread is called.
+/// This project's profile.
 const LOOKS: u32 = 10_000;
 
 /// The way out of a node, for what its batch sends.
@@ -374,7 +374,7 @@ fn take_waiting<R: Wait, C: Core + Named, G: Gate>(
     taken
 }
 
-/// Takes a batch of a node, if anything waits there. Returns the number of requests that it took.
+/// Takes a batch of a node. Returns the number of requests that it took, or `None` if nothing waits.
 fn visit<R: Wait, C: Core + Named, G: Gate>(
     rt: &R,
     shared: &Shared<C, G>,

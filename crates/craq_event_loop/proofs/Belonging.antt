@@ -12,6 +12,8 @@ use Rattle.craq_event_loop.specs.declared.connection_state.Phase.{Phase}
 use Rattle.craq_event_loop.specs.declared.connection_state.Phase.TheVariants as phases
 use Rattle.craq_seat.specs.declared.queue_state.Completion.{Completion}
 use Rattle.craq_seat.specs.declared.token.CallToken.{CallToken}
+use Rattle.std.specs.declared.alloc.Global.{Global}
+use Rattle.std.specs.declared.collections.VecDeque.{VecDeque}
 use Rattle.slab.specs.Slab.{Slab, get, with_value}
 use Rattle.slab.proofs.SlabLemmas.{Updates-with_value}
 use Rattle.craq_event_loop.specs.declared.connection.Connection.{Connection}
@@ -20,10 +22,10 @@ use Rattle.craq_event_loop.specs.Belonging.{Alone, Delivers, DeliversAll, Delive
 
 -- bytes came where no call was under way
 pub heard_waits : {E : Type 0} (p r : Phase) (heard : Result (Unit {0}) E) → p ≡ phases.Idle → OnOk heard ((r ≡ phases.Idle) ⊎ ((m : ClientMessage) × (r ≡ phases.Asks m)))
-    → OnErr heard (r ≡ phases.Over endings.Memory) → (q : CallRequest) → r ≡ phases.Waits q ↔ p ≡ phases.Waits q
-heard_waits p r (Ok u) idle (inl is) err q = (λ here. (let no : phases.Idle ≡ phases.Waits q = sym is ∙ here in cc), λ here. (let no : phases.Idle ≡ phases.Waits q = sym idle ∙ here in cc))
-heard_waits p r (Ok u) idle (inr is) err q = (λ here. (let no : phases.Asks is.0 ≡ phases.Waits q = sym is.1 ∙ here in cc), λ here. (let no : phases.Idle ≡ phases.Waits q = sym idle ∙ here in cc))
-heard_waits p r (Err e) idle ok is q = (λ here. (let no : phases.Over endings.Memory ≡ phases.Waits q = sym is ∙ here in cc), λ here. (let no : phases.Idle ≡ phases.Waits q = sym idle ∙ here in cc))
+    → OnErr heard (r ≡ phases.Over endings.Memory) → (q : CallRequest) (later : VecDeque CallRequest Global) → r ≡ phases.Waits q later ↔ p ≡ phases.Waits q later
+heard_waits p r (Ok u) idle (inl is) err q later = (λ here. (let no : phases.Idle ≡ phases.Waits q later = sym is ∙ here in cc), λ here. (let no : phases.Idle ≡ phases.Waits q later = sym idle ∙ here in cc))
+heard_waits p r (Ok u) idle (inr is) err q later = (λ here. (let no : phases.Asks is.0 ≡ phases.Waits q later = sym is.1 ∙ here in cc), λ here. (let no : phases.Idle ≡ phases.Waits q later = sym idle ∙ here in cc))
+heard_waits p r (Err e) idle ok is q later = (λ here. (let no : phases.Over endings.Memory ≡ phases.Waits q later = sym is ∙ here in cc), λ here. (let no : phases.Idle ≡ phases.Waits q later = sym idle ∙ here in cc))
 
 none_came : (a b : Option (List ℕ)) → b ≡ a → Consumes a b []
 none_came None b e = tt
@@ -41,7 +43,7 @@ nothing_came a b d e none is = rw is (
   none,
   record {
     heard = λ read written rounds h. subst (λ (x : List ℕ). Holds d.phase d.codec x written rounds) (sym (append-nil read)) h;
-    waits = λ q. (λ here. here, λ here. here);
+    waits = λ q later. (λ here. here, λ here. here);
     unsent = refl;
     calls = refl;
     session = refl;

@@ -1,4 +1,5 @@
 pub mod Advancing
+pub mod Ahead
 pub mod Belonging
 pub mod Busy
 pub mod Coming

@@ -8,7 +8,17 @@ use Rattle.std.proofs.lemmas.Bool.{cases_lt}
 use Rattle.craq_event_loop.specs.SubmittedCalls.{Calling}
 use Rattle.craq_event_loop.specs.Turns.{Refusing}
 use Rattle.craq_event_loop.specs.declared.connection_state.ConnectionState.{ConnectionState}
-use Rattle.craq_event_loop.specs.Advancing.{TakesSteps, none, step, call, asked_in, next_call, numbers_after}
+use Rattle.craq_event_loop.specs.Advancing.{AsksMore, TakesSteps, none, step, call, asks_ahead, asked_none, asked_room, asked_one, asked_in, next_call, numbers_after, numbers_ahead}
+
+-- the numbers of the messages that were asked ahead, and those of the calls after them, are those after the number before
+ahead_in_order : {T : Type 0} (refuses : Refusing) (submits : ℕ → Calling T) (old : ConnectionState T) (before : ℕ) (new : ConnectionState T) (after more : ℕ) (asked : AsksMore refuses submits old before new after)
+    → numbers_ahead asked ++ numbers_after after more ≡ numbers_after before (length (numbers_ahead asked) + more)
+ahead_in_order refuses submits old before _ _ more asked_none = ap (λ (x : ℕ). numbers_after before x) (omega arith)
+ahead_in_order refuses submits old before _ _ more (asked_room mid new number asked same) = ahead_in_order refuses submits old before mid number more asked
+ahead_in_order refuses submits old before _ _ more (asked_one mid new number asked one) =
+    append_assoc (numbers_ahead asked) (next_call number ∷ []) (numbers_after (next_call number) more)
+    ∙ ahead_in_order refuses submits old before mid number (suc more) asked
+    ∙ ap (λ (x : ℕ). numbers_after before x) (omega (arith, length-append (numbers_ahead asked) (next_call number ∷ [])))
 
 module _ {T : Type 0} (tells : List ℕ → Type 0) (refuses : Refusing) (submits : ℕ → Calling T) (old : ConnectionState T) (before : ℕ) where
   -- the numbers that the calls of some steps had, and those of the calls after them, are those after the number before
@@ -20,6 +30,11 @@ module _ {T : Type 0} (tells : List ℕ → Type 0) (refuses : Refusing) (submit
       append_assoc (asked_in taken) (next_call number ∷ []) (numbers_after (next_call number) more)
       ∙ in_order mid n number (suc more) taken
       ∙ ap (λ (x : ℕ). numbers_after before x) (omega (arith, length-append (asked_in taken) (next_call number ∷ [])))
+  in_order _ _ _ more (asks_ahead n mid new number after taken asked) =
+      append_assoc (asked_in taken) (numbers_ahead asked) (numbers_after after more)
+      ∙ ap (λ (x : List ℕ). asked_in taken ++ x) (ahead_in_order refuses submits mid number new after more asked)
+      ∙ in_order mid n number (length (numbers_ahead asked) + more) taken
+      ∙ ap (λ (x : ℕ). numbers_after before x) (omega (arith, length-append (asked_in taken) (numbers_ahead asked)))
 
 -- fewer steps than there are numbers do not come back to where they began
 apart_by : (m x j : ℕ) → x < m → 0 < j → j < m → (x + j < m) ⊎ (m ≤ x + j) → x ≢ (x + j) % m

@@ -1,5 +1,5 @@
 -- Whatever an event loop does, the states of its connections stay reachable.
-use Rattle.std.proofs.Common.{◌≡◌, ◌≢◌, ◌+◌, ◌++◌, ◌∙◌, ℕ, Bool, true, false, List, [], ◌∷◌, Option, Some, None, Result, Ok, Err, OnOk, OnErr, inl, inr, sym, refl, ap, subst, arith}
+use Rattle.std.proofs.Common.{◌≡◌, ◌≢◌, ◌+◌, ◌%◌, ◌^◌, ◌++◌, ◌∙◌, ℕ, length, Bool, true, false, List, [], ◌∷◌, Option, Some, None, Result, Ok, Err, OnOk, OnErr, inl, inr, sym, refl, ap, subst, arith}
 use Rattle.std.proofs.lemmas.Bool.{cases_eq}
 use Rattle.slab.specs.Slab.{Slab, get, with_value}
 use Rattle.slab.proofs.SlabLemmas.{Contains-entries, Updates-with_value, length-entries}
@@ -14,7 +14,8 @@ use Rattle.craq_event_loop.specs.declared.connection_state.Stepped.TheVariants a
 use Rattle.craq_event_loop.specs.declared.connection.Connection.{Connection}
 use Rattle.craq_event_loop.specs.declared.event_loop.LoopConnections.{LoopConnections}
 use Rattle.craq_event_loop.specs.Advancing.{HasRound, HasRoundAt, IsLast, IsNoCall, TakeRounds, TakesRound, TakesSteps, gives_way, most_steps, rests, step, under_key}
-use Rattle.craq_event_loop.specs.Belonging.{DeliversAll, DeliversBrought, DeliversCompletion, IsNew, OneByOne, OthersStay, StaysVacant, TakesCompletion, Writes}
+use Rattle.craq_event_loop.specs.ConnectionStates.{later_calls}
+use Rattle.craq_event_loop.specs.Belonging.{DeliversAll, DeliversBrought, DeliversCompletion, GetsCompletions, came_none, came_one, IsNew, OneByOne, OthersStay, StaysVacant, TakesCompletion, Writes}
 use Rattle.craq_event_loop.specs.Busy.{HasNone, NoneForgotten}
 use Rattle.craq_event_loop.specs.Coming.{AllReported, ChangesRoom, ClosesIfIdle, EndsIdle, TakesIn, key_of}
 use Rattle.craq_event_loop.specs.Reaching.{AreReachable, IsReachable, Reaches, begins, completes, sends, receives}
@@ -93,6 +94,13 @@ module _ {T R : Type 0} (tells : List ℕ → Type 0) (refuses : Refusing) (subm
   has_round_reaches most true old new key before after (same, none) r = subst Reached (sym same) r
   has_round_reaches most false old new key before after round r = round_reaches most old new key before after round r
 
+-- so it is after some completions
+pub completed_all : {T R : Type 0} (tells : List ℕ → Type 0) (refuses : Refusing) (submits : CallToken → Calling T) (finishes : Finishing T R) (first : ConnectionState T) (read written : List ℕ) (old new : ConnectionState T)
+    → GetsCompletions finishes old new → Reaches tells refuses submits finishes first read written old → Reaches tells refuses submits finishes first read written new
+completed_all tells refuses submits finishes first read written old _ came_none r = r
+completed_all tells refuses submits finishes first read written old _ (came_one mid new reply before now) r =
+    completes read written mid new reply (completed_all tells refuses submits finishes first read written old mid before r) now
+
 module _ {T R : Type 0} (is_new : T → Type 0) (tells : List ℕ → Type 0) (refuses : Refusing) (submits : CallToken → Calling T) (finishes : Finishing T R) where
   abbrev Reachable : ConnectionState T → Type 0
   Reachable state = IsReachable is_new tells refuses submits finishes state
@@ -107,8 +115,11 @@ module _ {T R : Type 0} (is_new : T → Type 0) (tells : List ℕ → Type 0) (r
   module _ {S : Type 0} where
     completed_reachable : (number : ℕ) (reply : R) (c d : Connection S T) → TakesCompletion finishes number reply c d → Reachable c.state → Reachable d.state
     completed_reachable number reply c d takes (first, fresh, read, written, reached) =
-        elim (cases_eq number c.calls) [
-          | inl own ↦ (first, fresh, read, written, completes read written c.state d.state reply reached (takes.own own))
+        elim (cases_eq ((number + length (later_calls c.state.phase)) % 2 ^ 64) c.calls) [
+          | inl own ↦ (
+              let so = takes.own own in
+              (first, fresh, read, written, completed_all tells refuses submits finishes first read written so.0 d.state so.2 (completes read written c.state so.0 reply reached so.1))
+              )
           | inr another ↦ same_reachable c.state d.state (takes.another another) (first, fresh, read, written, reached)
         ]
 
@@ -161,10 +172,9 @@ module _ {T R : Type 0} (is_new : T → Type 0) (tells : List ℕ → Type 0) (r
           keys s t reads
 
       left_reachable : (d e : Connection S T) (o : Option (Connection S T)) → StaysUnlessDone d o → o ≡ Some e → Reachable d.state → Reachable e.state
-      left_reachable d e None stays is r = cc
-      left_reachable d e (Some x) stays is r =
-          let one : e ≡ x = cc in
-          same_reachable d.state e.state (ap (λ (y : Connection S T). y.state) one ∙ ap (λ (y : Connection S T). y.state) stays.1) r
+      left_reachable d e o stays is r =
+          let here : StaysUnlessDone d (Some e) = subst (λ (x : Option (Connection S T)). StaysUnlessDone d x) is stays in
+          same_reachable d.state e.state (ap (λ (y : Connection S T). y.state) here.1) r
 
       written_at : (s t : Slab (Connection S T)) (key : ℕ) → WritesAt remaining contents is_over is_dry is_full s t key
           → (c d : Connection S T) → get s key ≡ Some c → get t key ≡ Some d → Reachable c.state → Reachable d.state

@@ -14,7 +14,7 @@ use Rattle.craq_event_loop.specs.Serving.{HasRead, HasWritten, ReadsAt, StaysUnl
 pub found_waiting : (phase : Phase) (found : Option CallRequest) → IsUnderWay phase found → is_some found ≡ is_waiting phase
 found_waiting phases.Idle found is = rw is refl
 found_waiting (phases.Asks m) found is = rw is refl
-found_waiting (phases.Waits q) found is = rw is refl
+found_waiting (phases.Waits q later) found is = rw is refl
 found_waiting (phases.Over why) found is = rw is refl
 
 -- a flag that is false reports that its statement does not hold

@@ -22,10 +22,10 @@ none_cut_off t u cut part = no_frame t.buffers.input.items cut.1 u.buffers.input
 
 found_still : (q : Phase) (s : Stepped) (t u : ProtocolCodec) → Found q s t u → IsPartial t.buffers.input.items → IsStarved q u.buffers.input.items
 found_still (phases.Over why) s t u found part = tt
-found_still (phases.Waits x) steps.Goes t u found part = found
-found_still (phases.Waits x) (steps.Calls unsent) t u found part = found
-found_still (phases.Waits x) steps.Starved t u found part = found
-found_still (phases.Waits x) steps.Stays t u found part = found
+found_still (phases.Waits x later) steps.Goes t u found part = found
+found_still (phases.Waits x later) (steps.Calls unsent) t u found part = found
+found_still (phases.Waits x later) steps.Starved t u found part = found
+found_still (phases.Waits x later) steps.Stays t u found part = found
 found_still (phases.Asks m) steps.Goes t u found part = none_cut_off t u found part
 found_still (phases.Asks m) (steps.Calls unsent) t u found part = found
 found_still (phases.Asks m) steps.Starved t u found part = found
@@ -37,7 +37,7 @@ found_still phases.Idle steps.Stays t u found part = subst (λ (x : ProtocolCode
 
 found_starved : (q : Phase) (t u : ProtocolCodec) → Found q steps.Starved t u → IsStarved q u.buffers.input.items
 found_starved (phases.Over why) t u found = tt
-found_starved (phases.Waits x) t u found = found
+found_starved (phases.Waits x later) t u found = found
 found_starved (phases.Asks m) t u found = found
 found_starved phases.Idle t u found = found
 
@@ -46,7 +46,7 @@ module _ (tells : List ℕ → Type 0) where
       → IsStarved p t.buffers.input.items → IsStarved q u.buffers.input.items
   took_still phases.Idle s q t u c d took part = found_still q s t u took.0 part
   took_still (phases.Asks m) s q t u c d took none = absurd none
-  took_still (phases.Waits x) s q t u c d took none = absurd none
+  took_still (phases.Waits x later) s q t u c d took none = absurd none
   took_still (phases.Over why) steps.Goes q t u c d took over = absurd took
   took_still (phases.Over why) (steps.Calls unsent) q t u c d took over = absurd took
   took_still (phases.Over why) steps.Starved q t u c d took over = absurd took
@@ -55,7 +55,7 @@ module _ (tells : List ℕ → Type 0) where
   took_starved : (p q : Phase) (t u : ProtocolCodec) (c d : DoorCalls) → Took tells p steps.Starved q t u c d → IsStarved q u.buffers.input.items
   took_starved phases.Idle q t u c d took = found_starved q t u took.0
   took_starved (phases.Asks m) q t u c d took = absurd took
-  took_starved (phases.Waits x) q t u c d took = absurd took
+  took_starved (phases.Waits x later) q t u c d took = absurd took
   took_starved (phases.Over why) q t u c d took = absurd took
 
   -- after a step

@@ -1,5 +1,7 @@
 -- A call that was asked, by its outcome at once or by a completion.
 use Rattle.std.proofs.Common.{◌≡◌, Option, Result, subst, sym}
+use Rattle.std.specs.declared.alloc.Global.{Global}
+use Rattle.std.specs.declared.collections.VecDeque.{VecDeque}
 use Rattle.craq_seat.specs.declared.token.CallToken.{CallToken}
 use Rattle.craq_names.specs.declared.refusal.Refusal.{Refusal}
 use Rattle.craq_seat.specs.Calls.{Called}
@@ -9,7 +11,7 @@ use Rattle.craq_event_loop.specs.declared.connection_state.Phase.{Phase}
 use Rattle.craq_event_loop.specs.declared.connection_state.Phase.TheVariants.{Waits}
 use Rattle.craq_event_loop.specs.declared.connection_state.CallRequest.{CallRequest}
 
-module _ {T R : Type 0} (finishes : Finishing T R) (phase : Phase) (q : CallRequest) (is : phase ≡ Waits q) (old new : T) where
+module _ {T R : Type 0} (finishes : Finishing T R) (phase : Phase) (q : CallRequest) (later : VecDeque CallRequest Global) (is : phase ≡ Waits q later) (old new : T) where
   -- it was submitted, and came back at once or not
   pub asked : (refuses : Refusing) (submits : CallToken → Submitting T R) (token made : CallToken) (came : Option (Result Called Refusal)) → made ≡ token
       → IsSubmitted (submits made) finishes q old came new → IsRefusedAtOnce refuses q came → IsAsked refuses (called_by submits finishes token) phase old came new

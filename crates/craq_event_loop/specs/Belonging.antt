@@ -1,6 +1,8 @@
 -- Bytes and completions of each connection.
-use Rattle.std.specs.Prelude.{◌≡◌, ◌≢◌, ◌⊎◌, ◌↔◌, ℕ, true, false, List, [], ◌∷◌, ◌++◌, Option, None, Some, Result, reverse}
+use Rattle.std.specs.Prelude.{◌≡◌, ◌≢◌, ◌⊎◌, ◌↔◌, ◌+◌, ◌%◌, ◌^◌, ℕ, length, true, false, List, [], ◌∷◌, ◌++◌, Option, None, Some, Result, reverse}
 use Rattle.std.specs.Io.KnownBytes.{Appends, Consumes}
+use Rattle.std.specs.declared.alloc.Global.{Global}
+use Rattle.std.specs.declared.collections.VecDeque.{VecDeque}
 use Rattle.slab.specs.Slab.{Slab, get}
 use Rattle.craq_names.specs.declared.refusal.Refusal.{Refusal}
 use Rattle.craq_frames.specs.Talk.{Exchanges}
@@ -8,7 +10,7 @@ use Rattle.craq_seat.specs.Calls.{Called}
 use Rattle.craq_seat.specs.declared.queue_state.Completion.{Completion}
 use Rattle.craq_seat.specs.declared.token.CallToken.{CallToken}
 use Rattle.craq_event_loop.specs.SubmittedCalls.{Finishing, IsOutcome}
-use Rattle.craq_event_loop.specs.ConnectionStates.{AnswersCall, Holds}
+use Rattle.craq_event_loop.specs.ConnectionStates.{AnswersCall, Holds, later_calls}
 use Rattle.craq_event_loop.specs.declared.connection_state.CallRequest.{CallRequest}
 use Rattle.craq_event_loop.specs.declared.connection_state.ConnectionState.{ConnectionState}
 use Rattle.craq_event_loop.specs.declared.connection_state.Phase.TheVariants as phases
@@ -32,11 +34,11 @@ pub record CameAs {S T : Type 0} (stream : S) (session : T) (slot receipts : ℕ
   pub same_place : c.slot ≡ slot
   pub same_receipts : c.receipts ≡ receipts
 
--- just these bytes came to the connection state, behind those before; the call that is under way, its unsent bytes, its calls and its
+-- just these bytes came to the connection state, behind those before; the calls that are under way, its unsent bytes, its calls and its
 -- session are unchanged
 pub record ReceivesBytes {T : Type 0} (came : List ℕ) (old new : ConnectionState T) : Type 0 where
   pub heard : (read written : List ℕ) (rounds : Exchanges) → Holds old.phase old.codec read written rounds → Holds new.phase new.codec (read ++ came) written rounds
-  pub waits : (q : CallRequest) → new.phase ≡ phases.Waits q ↔ old.phase ≡ phases.Waits q
+  pub waits : (q : CallRequest) (later : VecDeque CallRequest Global) → new.phase ≡ phases.Waits q later ↔ old.phase ≡ phases.Waits q later
   pub unsent : new.codec.buffers.output.items ≡ old.codec.buffers.output.items
   pub calls : new.calls ≡ old.calls
   pub session : new.session ≡ old.session
@@ -70,14 +72,27 @@ SendsNow now old new =
     ((new.heard ≡ old.heard) × (new.state ≡ old.state))
     ⊎ ((new.heard ≡ now) × (went : List ℕ) × (went ≢ []) × SendsBytes went old.state new.state)
 
--- the call of the connection state came back so
+-- the first call of the connection state that is under way came back so
 abbrev pub GetsOutcome : {T : Type 0} → Result Called Refusal → ConnectionState T → ConnectionState T → Type 0
 GetsOutcome outcome old new = AnswersCall old.phase outcome new.phase old.codec new.codec old.calls new.calls
 
--- the call of the connection state came back by a completion that says this: its session finished it
+-- that call came back by a completion that says this: its session finished it
 abbrev pub GetsCompletion : {T R : Type 0} → Finishing T R → R → ConnectionState T → ConnectionState T → Type 0
 GetsCompletion finishes reply old new =
     (outcome : Result Called Refusal) × IsOutcome finishes old.phase reply old.session outcome new.session × GetsOutcome outcome old new
+
+-- some calls of the connection state came back by completions, one after another: always the first of those that are under way
+pub data GetsCompletions {T R : Type 0} (finishes : Finishing T R) (old : ConnectionState T) : ConnectionState T → Type 0 where
+  came_none : GetsCompletions finishes old old
+  came_one : (mid new : ConnectionState T) (reply : R) → GetsCompletions finishes old mid → GetsCompletion finishes reply mid new → GetsCompletions finishes old new
+
+-- the first call came back by a completion that says this, and then those behind it whose completions came before
+abbrev pub GetsFirst : {T R : Type 0} → Finishing T R → R → ConnectionState T → ConnectionState T → Type 0
+GetsFirst {T} finishes reply old new = (mid : ConnectionState T) × GetsCompletion finishes reply old mid × GetsCompletions finishes mid new
+
+-- under this number the connection asked the first of the calls that are under way: as many calls as there are behind it were asked since
+abbrev pub IsFirst : {S T : Type 0} → ℕ → Connection S T → Type 0
+IsFirst number c = (number + length (later_calls c.state.phase)) % 2 ^ 64 ≡ c.calls
 
 -- of the connection nothing changes but its connection state, and whether a whole frame may be in the bytes that were read
 abbrev pub ChangesState : {S T : Type 0} → Connection S T → Connection S T → Type 0
@@ -96,11 +111,11 @@ ChangesSocket old new = new ≡ record old {
   unread = new.unread;
 }
 
--- a completion under this number says this: under the number of the connection's last call, the connection state gets the outcome of
--- its call; under another number nothing changes
+-- a completion under this number says this: under the number of the first call that is under way, the connection state gets its outcome;
+-- under another number nothing changes
 pub record TakesCompletion {S T R : Type 0} (finishes : Finishing T R) (number : ℕ) (reply : R) (old new : Connection S T) : Type 0 where
-  pub own : number ≡ old.calls → GetsCompletion finishes reply old.state new.state
-  pub another : number ≢ old.calls → new.state ≡ old.state
+  pub own : IsFirst number old → GetsFirst finishes reply old.state new.state
+  pub another : ¬ (IsFirst number old) → new.state ≡ old.state
   pub rest : ChangesState old new
 
 -- the connection whose key is in this token takes the completion under the number that is there, and then has something to do

@@ -14,7 +14,7 @@ use Rattle.craq_event_loop.specs.Starved.{IsStarved}
 
 -- a call is under way
 abbrev pub is_waiting : Phase → Bool
-is_waiting (phases.Waits q) = true
+is_waiting (phases.Waits q later) = true
 is_waiting phase = false
 
 -- the connection has ended, and no completion comes to it any more

@@ -1,6 +1,8 @@
 -- The two halves of a turn whose call comes back later.
-use Rattle.std.specs.Prelude.{◌≡◌, ◌⊎◌, ◌↔◌, ◌<◌, ◌≤◌, ◌++◌, ◌∷◌, [], ℕ, List, Result, Ok, Err, length, vec_len, vec_capacity}
+use Rattle.std.specs.Prelude.{◌≡◌, ◌⊎◌, ◌↔◌, ◌<◌, ◌≤◌, ◌+◌, ⊤, ◌++◌, ◌∷◌, [], ℕ, List, Result, Ok, Err, length, vec_len, vec_capacity}
 use Rattle.craq_names.specs.declared.refusal.Refusal.{Refusal}
+use Rattle.craq_model.specs.declared.ask.Ask.{Ask}
+use Rattle.craq_model.specs.declared.ask.Ask.TheVariants as asks
 use Rattle.craq_names.specs.declared.refusal.Refusal.TheVariants.{Closed, Memory}
 use Rattle.craq_seat.specs.CallCompletions.{IsCallOf}
 use Rattle.craq_frames.specs.declared.ask.ClientMessage.{ClientMessage}
@@ -22,6 +24,19 @@ use Rattle.craq_event_loop.specs.Turns.{message_of, kept, name_of, for_memory, R
 abbrev pub asked_by : CallRequest → ClientMessage
 asked_by q = message_of q.node.node q.pass q.ask
 
+-- the ask is an update
+abbrev pub IsUpdate : Ask → Type 0
+IsUpdate (asks.Update update) = ⊤
+IsUpdate (asks.Read mode object) = ⊥
+
+-- the request is an update, as the one that is under way, to its node
+abbrev pub GoesAlong : CallRequest → CallRequest → Type 0
+GoesAlong first q = IsUpdate first.ask × IsUpdate q.ask × (q.node ≡ first.node)
+
+-- the request is to a node of the chain of its first object
+abbrev pub IsNamed : CallRequest → Type 0
+IsNamed q = q.node ≡ name_of q.node.node q.ask
+
 -- the demand of a message: a call of a node of the chain of the request's first object, or a status
 abbrev pub Asks : ClientMessage → Demand → Type 0
 Asks m (demands.Call q) = (m ≡ asked_by q) × (q.node ≡ name_of q.node.node q.ask)
@@ -42,6 +57,19 @@ BeginsTurn tells policy old message (begun.Calls q) new = (message ≡ asked_by 
 -- there is room for one receipt more
 abbrev pub HasRoom : DoorCalls → Type 0
 HasRoom calls = vec_len calls.receipts < vec_capacity calls.receipts
+
+-- there is room for one receipt, and for this number of receipts more
+abbrev pub HasRoomFor : ℕ → DoorCalls → Type 0
+HasRoomFor more calls = vec_len calls.receipts + more < vec_capacity calls.receipts
+
+-- at most one receipt came, and the room is as large as before
+abbrev pub TakesRoom : DoorCalls → DoorCalls → Type 0
+TakesRoom old new = (vec_capacity new.receipts ≡ vec_capacity old.receipts) × (vec_len new.receipts ≤ vec_len old.receipts + 1)
+
+-- the room grew, and nothing else changed
+abbrev pub GrowsRoom : DoorCalls → DoorCalls → Type 0
+GrowsRoom old new =
+    (new.policy ≡ old.policy) × (new.receipts.items ≡ old.receipts.items) × (vec_len new.receipts ≡ vec_len old.receipts) × (vec_capacity old.receipts ≤ vec_capacity new.receipts)
 
 -- the receipts take all the room that there is
 abbrev pub HasNoRoom : DoorCalls → Type 0

@@ -1,5 +1,5 @@
 -- The states that a connection reaches, in an event loop or on a thread of its own.
-use Rattle.std.specs.Prelude.{◌≡◌, ℕ, true, false, List, [], ◌++◌, Option, Some}
+use Rattle.std.specs.Prelude.{◌≡◌, ℕ, List, [], ◌++◌, Option, Some}
 use Rattle.std.specs.Io.KnownBytes.{Appends, Consumes}
 use Rattle.slab.specs.Slab.{Slab, get}
 use Rattle.craq_seat.specs.declared.token.CallToken.{CallToken}
@@ -11,7 +11,6 @@ use Rattle.craq_event_loop.specs.declared.connection_state.Phase.TheVariants as 
 use Rattle.craq_event_loop.specs.declared.connection.Connection.{Connection}
 use Rattle.craq_event_loop.specs.Advancing.{TakesSteps, under_key}
 use Rattle.craq_event_loop.specs.Belonging.{GetsCompletion, SendsBytes, ReceivesBytes}
-use Rattle.craq_event_loop.specs.Busy.{is_waiting}
 
 -- the first state is that of a new connection, and it reached this one: the bytes `read` came and the bytes `written` went, it took steps
 -- and got the outcomes of its calls by completions, and nothing else happened to it
@@ -25,11 +24,6 @@ pub data Reaches {T R : Type 0} (tells : List ℕ → Type 0) (refuses : Refusin
       → TakesSteps tells refuses (under_key submits key) old before count new after → Reaches tells refuses submits finishes first read written new
   completes : (read written : List ℕ) (old new : ConnectionState T) (reply : R) → Reaches tells refuses submits finishes first read written old
       → GetsCompletion finishes reply old new → Reaches tells refuses submits finishes first read written new
-
--- the call that is under way came back by a completion; where none is under way nothing changed
-abbrev pub CompletesCall : {T R : Type 0} → Finishing T R → ConnectionState T → ConnectionState T → Type 0
-CompletesCall {R = R} finishes old new =
-    (is_waiting old.phase ≡ true → (reply : R) × GetsCompletion finishes reply old new) × (is_waiting old.phase ≡ false → new ≡ old)
 
 -- a connection goes on: its socket gave the bytes `read` and took the bytes `written`, and what reached its old state reaches its new one
 -- with these bytes too

@@ -1,5 +1,7 @@
 -- A thread reads from some connections, and writes the bytes that are unsent at others.
 use Rattle.std.specs.Prelude.{◌≡◌, ◌↔◌, ℕ, true, List, Option, None, Some}
+use Rattle.std.specs.declared.alloc.Global.{Global}
+use Rattle.std.specs.declared.collections.VecDeque.{VecDeque}
 use Rattle.slab.specs.Slab.{Slab, get}
 use Rattle.craq_event_loop.specs.SubmittedCalls.{Calling}
 use Rattle.craq_event_loop.specs.Turns.{Refusing}
@@ -17,7 +19,7 @@ use Rattle.craq_event_loop.specs.Sockets.{EndsAsSocket, EndsInOrder, ReadsOn, Wr
 -- it was, or its socket is; and it goes on to read unless its socket has no more for now
 pub record HasRead {S T : Type 0} (remaining contents : S → Option (List ℕ)) (is_over is_dry is_full : S → Type 0) (old new : Connection S T) : Type 0 where
   pub reads : Reads (remaining old.stream) (remaining new.stream) old.state new.state
-  pub waits : (q : CallRequest) → old.state.phase ≡ phases.Waits q → new.state ≡ old.state
+  pub waits : (q : CallRequest) (later : VecDeque CallRequest Global) → old.state.phase ≡ phases.Waits q later → new.state ≡ old.state
   pub taken : contents new.stream ≡ contents old.stream
   pub over : EndsAsSocket is_over old new
   pub ready : ReadsOn is_dry old new

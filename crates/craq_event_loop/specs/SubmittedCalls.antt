@@ -2,7 +2,6 @@
 use Rattle.std.specs.Prelude.{◌≡◌, Option, None, Some, Result, Ok, Err, IfErr}
 use Rattle.craq_seat.specs.declared.token.CallToken.{CallToken}
 use Rattle.craq_names.specs.declared.refusal.Refusal.{Refusal}
-use Rattle.craq_model.specs.declared.ask.Ask.{Ask}
 use Rattle.craq_seat.specs.RefusedCalls.{CanRefuse}
 use Rattle.craq_frames.specs.Payload.{NamesNode}
 use Rattle.craq_seat.specs.Calls.{Called}
@@ -64,12 +63,12 @@ IsRefusedAtOnce refuses q came = MayHaveAny refuses q
 
 -- the call that is under way was submitted, and had this immediate outcome; where none is under way none was submitted, and nothing came
 abbrev pub IsAsked : {T : Type 0} → Refusing → Calling T → Phase → T → Option (Result Called Refusal) → T → Type 0
-IsAsked refuses calls (phases.Waits q) old came new = calls q old came new × IsRefusedAtOnce refuses q came
+IsAsked refuses calls (phases.Waits q later) old came new = calls q old came new × IsRefusedAtOnce refuses q came
 IsAsked refuses calls phase old came new = (came ≡ None) × (new ≡ old)
 
 -- the outcome of the call that is under way by its completion; where none is under way nothing happened in the session
 abbrev pub IsOutcome : {T R : Type 0} → Finishing T R → Phase → R → T → Result Called Refusal → T → Type 0
-IsOutcome finishes (phases.Waits q) reply old outcome new = IsFinished finishes q reply old outcome new
+IsOutcome finishes (phases.Waits q later) reply old outcome new = IsFinished finishes q reply old outcome new
 IsOutcome finishes phase reply old outcome new = new ≡ old
 
 -- the call of a request in a session, from its submission to its outcome, which came at once or by a completion

@@ -1,7 +1,7 @@
 //! `Backend` and `AsyncBackend`: the backend of a server's connections; the served store is one.
 //! `LoopBackend` is that of an event loop, and the source of its connections. `BlockingBackend` is
 //! that of a thread that serves one.
-ghost use Rattle.std.specs.Prelude.{◌≡◌, ℕ, Bool, IfErr, IfOk, IfSome, List, Option, Result};
+ghost use Rattle.std.specs.Prelude.{◌≡◌, ℕ, Bool, IfErr, IfOk, IfSome, List, None, OnErr, OnOk, Option, Result};
 ghost use Rattle.craq_seat.specs.declared.token.CallToken.{CallToken};
 ghost use Rattle.craq_seat.specs.declared.queue_state.Completion.{Completion};
 ghost use Rattle.craq_model.specs.declared.ask.Ask.{Ask};
@@ -74,8 +74,33 @@ pub trait AsyncBackend: Backend {
         ensures asked { IfOk result (λ _. MayHaveAny (Self.refuses self.now) request.now) }
         ensures submitted { submits self.now submit_token.token session.old request.now (at_once result) session.new };
 
-    /// Finishes the call of a request in the session that made it. Returns the receipt of the
-    /// answer, or a refusal that such a request can have: `Closed` if the reply is of another call.
+    /// Makes the call of a request in a session behind calls that are under way. A completion with
+    /// the token will come.
+    ///
+    /// Refused as `submit` is, and where the session has no memory for a reply that comes early:
+    /// none is made then, no completion comes, and the session is unchanged.
+    fn submit_ahead(
+        &self,
+        session: &mut Self::Session,
+        submit_token: SubmitToken,
+        request: &CallRequest,
+    ) -> Result<(), Refusal>
+        ensures asked { OnOk result (MayHaveAny (Self.refuses self.now) request.now) }
+        ensures submitted { OnOk result (submits self.now submit_token.token session.old request.now None session.new) }
+        ensures same { OnErr result (session.new ≡ session.old) };
+
+    /// Keeps a reply in the session until its turn: it is of the call under this number, and calls
+    /// before that one are still under way.
+    fn keep(&self, session: &mut Self::Session, call: u64, reply: Self::Reply)
+        ensures { session.new ≡ session.old };
+
+    /// Returns the reply of the call under this number, if it was kept.
+    fn take_kept(&self, session: &mut Self::Session, call: u64) -> Option<Self::Reply>
+        ensures { session.new ≡ session.old };
+
+    /// Finishes the first call under way of the session, which is that of a request. Returns the
+    /// receipt of the answer, or a refusal that such a request can have: `Closed` if the reply is of
+    /// another call.
     fn finish(
         &self,
         session: &mut Self::Session,
@@ -98,8 +123,8 @@ pub trait BlockingBackend: AsyncBackend {
     /// Ends what `begin_bulk` began.
     fn end_bulk(&self);
 
-    /// Waits for the completion of the call that was submitted last, and returns its reply.
-    fn wait(&self) -> Self::Reply;
+    /// Waits for the next completion of a call that was submitted.
+    fn wait(&self) -> Completion<Self::Reply>;
 }
 
 /// A connection that came to an event loop, or to a thread of its own.

@@ -1,6 +1,8 @@
 //! A connection: its socket and its state (`ConnectionState`), and what goes between them; called by
 //! `event_loop` and `own_thread`.
 ghost use Rattle.std.specs.Prelude.{◌≡◌, ◌≤◌, ◌<◌, ◌-◌, ◌↔◌, ◌⊎◌, true, false, length, take, not, IsTrue};
+ghost use Rattle.std.specs.declared.alloc.Global.{Global};
+ghost use Rattle.std.specs.declared.collections.VecDeque.{VecDeque};
 ghost use Rattle.craq_event_loop.specs.declared.connection_state.Phase.TheVariants.{Idle, Waits};
 ghost use Rattle.craq_event_loop.specs.declared.connection_state.CallRequest.{CallRequest};
 ghost use Rattle.craq_event_loop.specs.Starved.{IsStarved};
@@ -10,13 +12,14 @@ use crate::connection_state::{Stepped, UnsentCall};
 use crate::socket::{Moved, Socket};
 use crate::traffic::ClientStream;
 use crate::{AsyncBackend, BlockingBackend, ConnectionState, ReceiptPolicy};
-use craq_seat::{CallToken, Outcome, Reach};
+use craq_seat::{CallToken, Completion, Outcome, Reach};
 use mio::event::Event;
 use mio::unix::SourceFd;
 use mio::{Interest, Registry};
 use std::alloc::Global;
 use std::io;
 use std::os::fd::AsRawFd;
+use std::sync::Wait;
 
 /// The number of unsent bytes below which they wait for more replies, where a whole frame may be
 /// there. This project's profile.
@@ -25,6 +28,9 @@ const FEW_BYTES: usize = 1_024;
 /// The most steps of a connection in its share: those of one request, and one that looks for the
 /// next. So a reply behind which nothing waits is written at once. This project's profile.
 pub(crate) const MOST_STEPS: usize = 3;
+
+/// The most requests that are asked ahead behind one: with it, as many as a payload has.
+const MOST_AHEAD: usize = 7;
 
 /// The share of each busy connection in a round of its event loop.
 #[derive(Clone, Copy, Debug)]
@@ -40,6 +46,20 @@ pub(crate) struct Share {
 struct CallOrigin {
     key: usize,
     reach: Reach,
+}
+
+impl CallOrigin {
+    ghost use Rattle.craq_seat.specs.declared.token.CallToken.{CallToken};
+
+    /// Returns the token of the call under this number.
+    fn token(self, call: u64) -> CallToken
+        ensures { result ≡ record { connection = self.key; call = call } }
+    {
+        CallToken {
+            connection: self.key,
+            call,
+        }
+    }
 }
 
 /// The readiness of a connection, as far as it is known.
@@ -200,11 +220,10 @@ impl<S: Socket + Drop, T: Drop> Connection<S, T> {
 }
 
 impl<S: Socket, T> Connection<S, T> {
-    ghost use Rattle.craq_event_loop.specs.Advancing.{AsksBackend, HasRound, next_call, under_key};
-    ghost use Rattle.craq_event_loop.specs.Belonging.{GetsOutcome, SendsBytes, SendsNow, ReceivesBytes, ReceivesNow, ChangesSocket, ChangesState, Reads, TakesCompletion, Writes};
+    ghost use Rattle.craq_event_loop.specs.Advancing.{AsksAll, AsksBackend, AsksMore, HasRound, next_call, under_key};
+    ghost use Rattle.craq_event_loop.specs.Belonging.{GetsCompletion, GetsCompletions, GetsOutcome, IsFirst, SendsBytes, SendsNow, ReceivesBytes, ReceivesNow, ChangesSocket, ChangesState, Reads, TakesCompletion, Writes};
     ghost use Rattle.craq_event_loop.specs.Busy.{GoesOn, IsBehind, IsDone, IsIdle, is_waiting};
     ghost use Rattle.craq_event_loop.specs.SubmittedCalls.{IsReportable, called_by};
-    ghost use Rattle.craq_event_loop.specs.Reaching.{CompletesCall};
     ghost use Rattle.craq_event_loop.specs.Readiness.{noticed};
     ghost use Rattle.craq_event_loop.specs.Sockets.{EndsAsSocket, EndsInOrder, HasSaidAll, ReadsOn, WritesOn};
 
@@ -227,7 +246,7 @@ impl<S: Socket, T> Connection<S, T> {
         self.more && !self.waits()
     }
 
-    /// Returns whether its call is under way: a completion will come.
+    /// Returns whether a call is under way: a completion will come.
     #[tactic(auto, using(crate::proofs::Serving::found_waiting))]
     fn waits(&self) -> bool
         ensures { result ≡ is_waiting self.now.state.phase }
@@ -346,7 +365,7 @@ impl<S: Socket, T> Connection<S, T> {
     /// is unchanged. It is over only if it was, or its socket is.
     #[tactic(auto, using(crate::proofs::Belonging::nothing_read, crate::proofs::Ending::is_as_before, crate::proofs::Ending::reads_as_before, crate::proofs::Belonging::not_heard))]
     pub(crate) fn read(&mut self, alloc: Global, chunk: &mut [u8], now: u64)
-        ensures waits { (q : CallRequest) → self.old.state.phase ≡ Waits q → self.new.state ≡ self.old.state }
+        ensures waits { (q : CallRequest) (later : VecDeque CallRequest Global) → self.old.state.phase ≡ Waits q later → self.new.state ≡ self.old.state }
         ensures reads { Reads (S.remaining self.old.stream) (S.remaining self.new.stream) self.old.state self.new.state }
         ensures contents { S.contents self.new.stream ≡ S.contents self.old.stream }
         ensures over { EndsAsSocket S.is_over self.old self.new }
@@ -405,7 +424,7 @@ impl<S: Socket, T> Connection<S, T> {
         }
     }
 
-    /// Takes the outcome of the call that is under way.
+    /// Takes the outcome of the first call that is under way.
     fn answer<H: AsyncBackend>(&mut self, alloc: Global, backend: &H, outcome: Outcome)
         requires { IsReportable outcome }
         ensures reported { GetsOutcome outcome self.old.state self.new.state }
@@ -418,10 +437,42 @@ impl<S: Socket, T> Connection<S, T> {
         self.state.answer(alloc, outcome);
     }
 
-    /// Takes a completion. Where the call that was asked last has this number, its session finishes
-    /// it by this reply. Another number is ignored: none comes, since a call is asked only once the
-    /// one before it has its outcome.
+    /// Returns whether the first call that is under way was asked under this number.
+    fn is_first(&self, call: u64) -> bool
+        ensures { IsTrue result ↔ IsFirst call self.now }
+    {
+        call.wrapping_add(self.state.count_later() as u64) == self.calls
+    }
+
+    /// Has its session finish the first call that is under way by this reply.
     #[tactic(auto, using(crate::proofs::Advancing::came_by_completion))]
+    fn finish<H: AsyncBackend<Session = T>>(&mut self, alloc: Global, backend: &H, reply: H::Reply)
+        ensures completes { GetsCompletion (H.finishes backend.now) reply self.old.state self.new.state }
+        ensures rest { ChangesState self.old self.new }
+    {
+        let outcome = self.state.finish(backend, reply);
+        self.answer(alloc, backend, outcome);
+    }
+
+    /// Finishes the calls in front whose replies came before their turn.
+    #[tactic(auto, using(crate::proofs::Advancing::none_completed, crate::proofs::Advancing::one_completed))]
+    fn finish_kept<H: AsyncBackend<Session = T>>(&mut self, alloc: Global, backend: &H)
+        ensures completes { GetsCompletions (H.finishes backend.now) self.old.state self.new.state }
+        ensures rest { ChangesState self.old self.new }
+    {
+        for _kept in 0..self.state.count_later().saturating_add(1) {
+            let first = self.calls.wrapping_sub(self.state.count_later() as u64);
+            let Some(reply) = self.state.take_kept(backend, first) else {
+                return;
+            };
+            self.finish(alloc, backend, reply);
+        }
+    }
+
+    /// Takes a completion. Where it is of the first call that is under way, the session finishes
+    /// that call by this reply, and then those behind it whose replies came before. A reply to a
+    /// later call is kept until its turn. Another number is ignored: none comes.
+    #[tactic(auto, using(crate::proofs::Advancing::takes_first, crate::proofs::Advancing::takes_another))]
     pub(crate) fn take_reply<H: AsyncBackend<Session = T>>(
         &mut self,
         alloc: Global,
@@ -431,27 +482,36 @@ impl<S: Socket, T> Connection<S, T> {
     )
         ensures { TakesCompletion (H.finishes backend.now) call reply self.old self.new }
     {
-        if call != self.calls {
+        if self.is_first(call) {
+            self.finish(alloc, backend, reply);
+            self.finish_kept(alloc, backend);
+        } else if self.calls.wrapping_sub(call) < self.state.count_later() as u64 {
+            self.state.keep(backend, call, reply);
+        } else {
             drop(reply);
-            return;
         }
-        let outcome = self.state.finish(backend, reply);
-        self.answer(alloc, backend, outcome);
     }
 
-    /// Waits for the completion of the call that is under way, and takes it. Nothing changes where no
-    /// call is under way.
-    #[tactic(auto, using(crate::proofs::OwnThread::own_completion, crate::proofs::OwnThread::no_completion))]
-    pub(crate) fn complete<B: BlockingBackend<Session = T>>(&mut self, alloc: Global, backend: &B)
-        ensures outcome { CompletesCall (B.finishes backend.now) self.old.state self.new.state }
+    /// Waits for the completions of the calls that are under way, and takes them. None is under way
+    /// afterwards.
+    #[tactic(auto, using(crate::proofs::Advancing::none_completed, crate::proofs::Advancing::takes_completions, crate::proofs::Advancing::then_completed))]
+    pub(crate) fn complete<R: Wait, B: BlockingBackend<Session = T>>(
+        &mut self,
+        rt: &R,
+        alloc: Global,
+        backend: &B,
+    )
+        ensures completes { GetsCompletions (B.finishes backend.now) self.old.state self.new.state }
+        ensures rests { is_waiting self.new.state.phase ≡ false }
         ensures rest { ChangesState self.old self.new }
     {
-        if !self.waits() {
-            return;
+        for _ in rt.forever() {
+            if !self.waits() {
+                return;
+            }
+            let Completion { token, reply } = backend.wait();
+            self.take_reply(alloc, backend, token.call, reply);
         }
-        let reply = backend.wait();
-        let call = self.calls;
-        self.take_reply(alloc, backend, call, reply);
     }
 
     /// Makes the call of a step, under its connection's key and the number after that of the last
@@ -468,19 +528,50 @@ impl<S: Socket, T> Connection<S, T> {
         ensures rest { ChangesState (record self.old { calls = next_call self.old.calls }) self.new }
     {
         self.calls = self.calls.wrapping_add(1);
-        let token = CallToken {
-            connection: origin.key,
-            call: self.calls,
-        };
+        let token = origin.token(self.calls);
         if let Some(outcome) = self.state.ask(unsent, backend, token, origin.reach) {
             self.answer(alloc, backend, outcome);
         }
     }
 
+    /// Asks the requests behind the one that is under way ahead, as many as go along with it, each
+    /// under the next number.
+    #[tactic(auto, using(crate::proofs::Advancing::none_ahead, crate::proofs::Advancing::one_ahead, crate::proofs::Advancing::no_more_ahead))]
+    fn ask_ahead<H: AsyncBackend<Session = T>>(&mut self, backend: &H, origin: CallOrigin)
+        ensures asked { AsksMore (H.refuses backend.now) (under_key (called_by (H.submits backend.now) (H.finishes backend.now)) origin.key) self.old.state self.old.calls self.new.state self.new.calls }
+        ensures rest { ChangesState (record self.old { calls = self.new.calls }) self.new }
+    {
+        for _ahead in 0..MOST_AHEAD {
+            let call = self.calls.wrapping_add(1);
+            if !self
+                .state
+                .ask_ahead(backend, origin.token(call), origin.reach)
+            {
+                return;
+            }
+            self.calls = call;
+        }
+    }
+
+    /// Makes the call of a step, and asks the requests behind it ahead.
+    fn call<H: AsyncBackend<Session = T>>(
+        &mut self,
+        alloc: Global,
+        backend: &H,
+        unsent: UnsentCall,
+        origin: CallOrigin,
+    )
+        ensures asked { AsksAll (H.refuses backend.now) (under_key (called_by (H.submits backend.now) (H.finishes backend.now)) origin.key) self.old.state self.old.calls self.new.state self.new.calls }
+        ensures rest { ChangesState (record self.old { calls = self.new.calls }) self.new }
+    {
+        self.submit(alloc, backend, unsent, origin);
+        self.ask_ahead(backend, origin);
+    }
+
     /// Takes steps until one finds nothing to do, or as many as its share of the round has. Its
     /// calls are asked under this key, each under the next number. A connection that is over takes
     /// no step.
-    #[tactic(auto, using(crate::proofs::Advancing::none_taken, crate::proofs::Advancing::went, crate::proofs::Advancing::called, crate::proofs::Advancing::starved, crate::proofs::Advancing::stayed, crate::proofs::Starved::step_still, crate::proofs::Starved::step_starved))]
+    #[tactic(auto, using(crate::proofs::Advancing::none_taken, crate::proofs::Advancing::went, crate::proofs::Advancing::called_all, crate::proofs::Advancing::calls_then, crate::proofs::Advancing::starved, crate::proofs::Advancing::stayed, crate::proofs::Starved::step_still, crate::proofs::Starved::step_starved))]
     pub(crate) fn advance<H: AsyncBackend<Session = T>>(
         &mut self,
         alloc: Global,
@@ -501,7 +592,7 @@ impl<S: Socket, T> Connection<S, T> {
         for _step in 0..share.steps {
             match self.state.step(alloc, backend) {
                 Stepped::Goes => {}
-                Stepped::Calls(unsent) => self.submit(alloc, backend, unsent, origin),
+                Stepped::Calls(unsent) => self.call(alloc, backend, unsent, origin),
                 Stepped::Starved => {
                     self.more = false;
                     return;

@@ -4,13 +4,15 @@
 //! Above it stand the two halves of a request: the call that it asks for, and its reply once the call
 //! has its outcome. Then the right to submit a call, which a step makes, and the next state of a
 //! connection after a step or an outcome.
-ghost use Rattle.std.specs.Prelude.{◌≡◌, ◌↔◌, Err, IfErr, IfOk, None, OnErr, IfSome};
+ghost use Rattle.std.specs.Prelude.{◌≡◌, ◌<◌, ◌+◌, ◌++◌, ◌↔◌, [], ◌∷◌, Bool, Err, IfErr, IfOk, IsTrue, None, OnErr, OnOk, IfSome, length};
+ghost use Rattle.std.specs.VecDeque.{deque_capacity, deque_len};
 ghost use Rattle.craq_frames.specs.Payload.{NamesNode};
 ghost use Rattle.craq_event_loop.specs.declared.connection_state.Phase.TheVariants.{Idle};
-ghost use Rattle.craq_event_loop.specs.ConnectionStates.{KeepsRoom, AnswersCall, Continues, Found, HasNoMore, HasOneMore, Took};
+ghost use Rattle.craq_frames.specs.Steps.{IsTakenAhead, ahead};
+ghost use Rattle.craq_event_loop.specs.ConnectionStates.{KeepsRoom, AnswersCall, Continues, CountsAhead, Found, HasNoMore, HasReply, Took};
 ghost use Rattle.craq_frames.specs.Allowed.{IsAllowed};
-ghost use Rattle.craq_event_loop.specs.Halves.{Asks, BeginsTurn, EndsTurn, HasOwnReceipt, HasRoom, IsClosed, IsStatusReply, MakesRoom, RefusesCall, asked_by};
-ghost use Rattle.craq_event_loop.specs.SubmittedCalls.{IsReportable, IsRefusedAtOnce, IsSubmitted};
+ghost use Rattle.craq_event_loop.specs.Halves.{Asks, BeginsTurn, EndsTurn, GoesAlong, GrowsRoom, HasOwnReceipt, HasRoom, HasRoomFor, IsClosed, IsNamed, IsStatusReply, MakesRoom, RefusesCall, TakesRoom, asked_by};
+ghost use Rattle.craq_event_loop.specs.SubmittedCalls.{IsReportable, IsRefusedAtOnce, IsSubmitted, MayHaveAny};
 ghost use Rattle.craq_event_loop.specs.Turns.{IsCalled, kept, name_of};
 ghost use Rattle.craq_frames.specs.declared.ask.ClientMessage.{ClientMessage};
 
@@ -21,6 +23,7 @@ use craq_model::Ask;
 use craq_names::{NodeId, NodeName, Pass, Refusal};
 use craq_seat::{CallReceipt, CallToken, Outcome, Reach, answer_of_call};
 use std::alloc::{AllocError, Global};
+use std::collections::VecDeque;
 use std::mem;
 
 /// The call that a request asks for.
@@ -141,6 +144,7 @@ fn reply_of_call(
     ensures same { OnErr result (calls.new.receipts.items ≡ calls.old.receipts.items) }
     ensures own { HasOwnReceipt outcome calls.old.receipts.items calls.new.receipts.items }
     ensures policy { calls.new.policy ≡ calls.old.policy }
+    ensures takes { TakesRoom calls.old calls.new }
 {
     let receipt = outcome?;
     let CallRequest { node, pass, ask } = request;
@@ -171,6 +175,7 @@ fn end_turn(
     ensures ends { EndsTurn request.now outcome calls.old.receipts.items result calls.new.receipts.items }
     ensures allowed { IsAllowed result }
     ensures policy { calls.new.policy ≡ calls.old.policy }
+    ensures takes { TakesRoom calls.old calls.new }
 {
     match reply_of_call(alloc, calls, request, outcome) {
         Ok(reply) => reply,
@@ -194,8 +199,9 @@ pub(crate) enum Phase {
     Idle,
     /// This request is to be asked.
     Asks(ClientMessage),
-    /// This call is to be made, or is under way.
-    Waits(CallRequest),
+    /// This call is to be made, or is under way. Those behind it, in order, were asked ahead: before
+    /// the replies to those before them came.
+    Waits(CallRequest, VecDeque<CallRequest>),
     /// Nothing is read or asked any more.
     Over(Ending),
 }
@@ -258,16 +264,26 @@ pub enum Stepped {
     Stays,
 }
 
-/// Returns the state after the reply to the request that is under way.
-fn next_phase(codec: &mut ProtocolCodec, reply: ClientReply) -> Phase
-    requires { IsAllowed reply }
-    ensures more { (m : ClientMessage) → HasOneMore (Phase.Asks m) codec.old result codec.new m reply }
+/// Returns the state after the reply to the first request that is under way. The calls behind it
+/// were asked ahead.
+fn next_phase(
+    codec: &mut ProtocolCodec,
+    reply: ClientReply,
+    mut later: VecDeque<CallRequest>,
+) -> Phase
+    requires allowed { IsAllowed reply }
+    requires counted { ahead codec.old.asking ≡ length later.items }
+    ensures more { (m : ClientMessage) → HasReply m later.items codec.old result codec.new reply }
     ensures idle { result ≡ Phase.Idle → codec.new.asking ≡ None }
-    ensures continues { Continues result codec.old codec.new }
+    ensures continues { Continues later.items result codec.old codec.new }
+    ensures counted { CountsAhead result codec.new.asking }
 {
     match codec.reply(reply) {
         Ok(Some(message)) => Phase::Asks(message),
-        Ok(None) => Phase::Idle,
+        Ok(None) => match later.pop_front() {
+            Some(request) => Phase::Waits(request, later),
+            None => Phase::Idle,
+        },
         Err(_) => Phase::Over(Ending::Memory),
     }
 }
@@ -278,6 +294,7 @@ fn find<C: Backend>(alloc: Global, backend: &C, codec: &mut ProtocolCodec) -> (P
     ensures more { HasNoMore Phase.Idle codec.old result.0 codec.new }
     ensures found { Found result.0 result.1 codec.old codec.new }
     ensures idle { result.0 ≡ Phase.Idle → codec.new.asking ≡ None }
+    ensures counted { CountsAhead result.0 codec.new.asking }
 {
     if codec.is_full() {
         return (Phase::Idle, Stepped::Stays);
@@ -301,19 +318,26 @@ fn find<C: Backend>(alloc: Global, backend: &C, codec: &mut ProtocolCodec) -> (P
 
 /// Begins a request. Returns the state after that, and the outcome.
 fn begin<C: Backend>(
+    alloc: Global,
     backend: &C,
     codec: &mut ProtocolCodec,
     calls: &mut DoorCalls,
     message: ClientMessage,
 ) -> (Phase, Stepped)
+    requires { ahead codec.old.asking ≡ 0 }
     ensures took { Took (C.tells backend.now) (Phase.Asks message) result.1 result.0 codec.old codec.new calls.old calls.new }
     ensures policy { calls.new.policy ≡ calls.old.policy }
     ensures idle { result.0 ≡ Phase.Idle → codec.new.asking ≡ None }
     ensures room { KeepsRoom result.0 calls.new }
+    ensures counted { CountsAhead result.0 codec.new.asking }
 {
+    let none_ahead = VecDeque::new(alloc);
     match begin_turn(backend, calls, message) {
-        Begun::Reported(reply) => (next_phase(codec, reply), Stepped::Goes),
-        Begun::Calls(request) => (Phase::Waits(request), Stepped::Calls(UnsentCall::new())),
+        Begun::Reported(reply) => (next_phase(codec, reply, none_ahead), Stepped::Goes),
+        Begun::Calls(request) => {
+            let phase = Phase::Waits(request, none_ahead);
+            (phase, Stepped::Calls(UnsentCall::new()))
+        }
     }
 }
 
@@ -327,20 +351,22 @@ fn next_step<C: Backend>(
 ) -> (Phase, Stepped)
     requires idle { phase ≡ Phase.Idle → codec.old.asking ≡ None }
     requires room { KeepsRoom phase calls.old }
+    requires counted { CountsAhead phase codec.old.asking }
     ensures took { Took (C.tells backend.now) phase result.1 result.0 codec.old codec.new calls.old calls.new }
     ensures policy { calls.new.policy ≡ calls.old.policy }
     ensures idle { result.0 ≡ Phase.Idle → codec.new.asking ≡ None }
     ensures room { KeepsRoom result.0 calls.new }
+    ensures counted { CountsAhead result.0 codec.new.asking }
 {
     match phase {
         Phase::Idle => find(alloc, backend, codec),
-        Phase::Asks(message) => begin(backend, codec, calls, message),
-        Phase::Waits(request) => (Phase::Waits(request), Stepped::Stays),
+        Phase::Asks(message) => begin(alloc, backend, codec, calls, message),
+        Phase::Waits(request, later) => (Phase::Waits(request, later), Stepped::Stays),
         Phase::Over(ending) => (Phase::Over(ending), Stepped::Stays),
     }
 }
 
-/// Returns the state after the outcome of the call that is under way.
+/// Returns the state after the outcome of the first call that is under way.
 fn answered(
     alloc: Global,
     codec: &mut ProtocolCodec,
@@ -350,17 +376,19 @@ fn answered(
 ) -> Phase
     requires idle { phase ≡ Phase.Idle → codec.old.asking ≡ None }
     requires room { KeepsRoom phase calls.old }
+    requires counted { CountsAhead phase codec.old.asking }
     requires reportable { IsReportable outcome }
     ensures answers { AnswersCall phase outcome result codec.old codec.new calls.old calls.new }
     ensures policy { calls.new.policy ≡ calls.old.policy }
     ensures idle { result ≡ Phase.Idle → codec.new.asking ≡ None }
     ensures room { KeepsRoom result calls.new }
+    ensures counted { CountsAhead result codec.new.asking }
 {
     match phase {
-        Phase::Waits(request) => {
+        Phase::Waits(request, later) => {
             let reply = end_turn(alloc, calls, &request, outcome);
             drop(request);
-            next_phase(codec, reply)
+            next_phase(codec, reply, later)
         }
         other => {
             drop(outcome);
@@ -389,10 +417,121 @@ fn submit_call<B: AsyncBackend>(
     }
 }
 
+/// Returns the message that asks for this call.
+fn message_of(request: CallRequest) -> ClientMessage
+    ensures { result ≡ asked_by request }
+{
+    let CallRequest { node, pass, ask } = request;
+    let NodeName { chain: _, node } = node;
+    match ask {
+        Ask::Update(update) => ClientMessage::Update { node, pass, update },
+        Ask::Read { mode, object } => ClientMessage::Read {
+            node,
+            pass,
+            mode,
+            object,
+        },
+    }
+}
+
+/// Returns whether a request goes along with the one that is under way: both are updates at one
+/// node.
+fn goes_along(first: &CallRequest, request: &CallRequest) -> bool
+    ensures { IsTrue result → GoesAlong first.now request.now }
+{
+    match (&first.ask, &request.ask) {
+        (Ask::Update(_), Ask::Update(_)) => request.node == first.node,
+        _ => false,
+    }
+}
+
+/// Takes the next request of the payload, if it goes along with the one that is under way. Else
+/// nothing changes.
+fn take_along(codec: &mut ProtocolCodec, first: &CallRequest) -> Option<CallRequest>
+    ensures taken { IfSome result (λ q. IsTakenAhead codec.old.asking codec.new.asking (asked_by q)) }
+    ensures along { IfSome result (λ q. GoesAlong first.now q) }
+    ensures named { IfSome result (λ q. IsNamed q) }
+    ensures none { result ≡ None → codec.new ≡ codec.old }
+    ensures buffers { codec.new.buffers ≡ codec.old.buffers }
+{
+    let message = codec.take_ahead()?;
+    match demand_of(message) {
+        Demand::Call(request) => {
+            if goes_along(first, &request) {
+                return Some(request);
+            }
+            codec.put_back(message_of(request));
+            None
+        }
+        Demand::Status => {
+            codec.put_back(ClientMessage::Status);
+            None
+        }
+    }
+}
+
+/// Asks the next request of the payload ahead, if it goes along with the one that is under way.
+/// Returns it; a completion will come. Else nothing changes.
+fn ask_next<B: AsyncBackend>(
+    backend: &B,
+    codec: &mut ProtocolCodec,
+    session: &mut B::Session,
+    first: &CallRequest,
+    submit_token: SubmitToken,
+) -> Option<CallRequest>
+    ensures taken { IfSome result (λ q. IsTakenAhead codec.old.asking codec.new.asking (asked_by q)) }
+    ensures along { IfSome result (λ q. GoesAlong first.now q) }
+    ensures named { IfSome result (λ q. IsNamed q) }
+    ensures submitted { IfSome result (λ q. B.submits backend.now submit_token.token session.old q None session.new) }
+    ensures may { IfSome result (λ q. MayHaveAny (B.refuses backend.now) q) }
+    ensures none { result ≡ None → codec.new ≡ codec.old }
+    ensures unmade { result ≡ None → session.new ≡ session.old }
+    ensures buffers { codec.new.buffers ≡ codec.old.buffers }
+{
+    let request = take_along(codec, first)?;
+    match backend.submit_ahead(session, submit_token, &request) {
+        Ok(()) => Some(request),
+        Err(_) => {
+            codec.put_back(message_of(request));
+            None
+        }
+    }
+}
+
+/// Makes room for one more call behind those that are under way, and for the receipts of all. Fails
+/// only when out of memory. Nothing but room changes in either case.
+fn make_room_behind(
+    calls: &mut DoorCalls,
+    later: &mut VecDeque<CallRequest>,
+) -> Result<(), AllocError>
+    ensures grows { GrowsRoom calls.old calls.new }
+    ensures room { OnOk result (HasRoomFor (length later.old.items + 1) calls.new) }
+    ensures same { later.new.items ≡ later.old.items }
+    ensures place { OnOk result (deque_len later.new < deque_capacity later.new) }
+{
+    later.reserve(1)?;
+    let Some(count) = later.len().checked_add(2) else {
+        return Err(AllocError);
+    };
+    calls.make_room_for(count)
+}
+
+/// Appends a call, for which there is room.
+fn push(later: &mut VecDeque<CallRequest>, request: CallRequest)
+    requires { deque_len later.old < deque_capacity later.old }
+    ensures { later.new.items ≡ later.old.items ++ request ∷ [] }
+{
+    let _ = later.push_back(request);
+}
+
 /// The state of one connection whose calls are answered later: bytes in, calls to make, their
-/// outcomes, bytes out. At most one call is under way. The unsent bytes are the frames of the
-/// replies to the frames that came, in their order. Each reply is that of a turn for its request.
-/// All its calls are made and finished in one session.
+/// outcomes, bytes out. The unsent bytes are the frames of the replies to the frames that came, in
+/// their order. Each reply is that of a turn for its request. All its calls are made and finished in
+/// one session, in the order of their requests.
+///
+/// A call is made once all requests before it have their replies. Only updates at one node that
+/// came in one payload are made together, up to 8, in their order (`ask_ahead`). So a read, a status
+/// or a request to another node is asked after all requests before it were answered.
 #[derive(Drop)]
 pub struct ConnectionState<T> {
     codec: ProtocolCodec,
@@ -401,15 +540,17 @@ pub struct ConnectionState<T> {
     session: T,
     ghost idle: { phase ≡ Idle → codec.asking ≡ None },
     ghost room: { KeepsRoom phase calls },
+    ghost counted: { CountsAhead phase codec.asking },
 }
 
 impl<T> ConnectionState<T> {
-    ghost use Rattle.std.specs.Prelude.{◌≤◌, ◌⊎◌, ℕ, List, [], ◌++◌, take, drop, length, IfSome, IsTrue, OnOk};
+    ghost use Rattle.std.specs.Prelude.{◌≤◌, ◌⊎◌, ℕ, List, [], ◌++◌, false, take, drop, length, IfSome, IsTrue, OnOk};
     ghost use Rattle.std.specs.Option.{option_copied};
     ghost use Rattle.craq_frames.specs.declared.ask.ClientMessage.{ClientMessage};
     ghost use Rattle.craq_frames.specs.Talk.{Exchanges};
     ghost use Rattle.craq_event_loop.specs.SubmittedCalls.{IsAsked, IsOutcome, called_by};
-    ghost use Rattle.craq_event_loop.specs.ConnectionStates.{AnswersCall, Holds, IsUnderWay, Took, ending_of};
+    ghost use Rattle.craq_event_loop.specs.Advancing.{AsksAhead, IsAsBefore};
+    ghost use Rattle.craq_event_loop.specs.ConnectionStates.{AnswersCall, Holds, IsUnderWay, Took, ending_of, later_calls};
 
     /// Makes the state of a new connection with its session and the policy for its receipts. Takes
     /// no memory.
@@ -495,13 +636,23 @@ impl<T> ConnectionState<T> {
         self.codec.wrote(count);
     }
 
-    /// Lends the call that is under way.
+    /// Lends the first call that is under way.
     pub(crate) fn request(&self) -> Option<&CallRequest>
         ensures { IsUnderWay self.now.phase (option_copied result) }
     {
         match &self.phase {
-            Phase::Waits(request) => Some(request),
+            Phase::Waits(request, _) => Some(request),
             _ => None,
+        }
+    }
+
+    /// Returns the number of calls behind the first one that is under way.
+    pub(crate) fn count_later(&self) -> usize
+        ensures { result ≡ length (later_calls self.now.phase) }
+    {
+        match &self.phase {
+            Phase::Waits(_, later) => later.len(),
+            _ => 0,
         }
     }
 
@@ -538,14 +689,74 @@ impl<T> ConnectionState<T> {
         ensures calls { self.new.calls ≡ self.old.calls }
     {
         let submit_token = unsent.make(token, reach);
-        let Phase::Waits(request) = &self.phase else {
+        let Phase::Waits(request, _) = &self.phase else {
             drop(submit_token);
             return None;
         };
         submit_call(backend, &mut self.session, submit_token, request)
     }
 
-    /// Returns the outcome of the call that is under way, by the reply of its completion, for
+    /// Asks the next request of the payload ahead, while a call is under way: its call is made before
+    /// the replies to those before it came. It is an update, as the first call under way is, at its
+    /// node. Returns whether it did; a completion with this token will come then. Else nothing
+    /// changes but room.
+    #[tactic(auto, using(crate::proofs::Ahead::counted_more, crate::proofs::Ahead::counted_kept, crate::proofs::Ahead::room_more, crate::proofs::Ahead::room_kept))]
+    pub(crate) fn ask_ahead<B: AsyncBackend<Session = T>>(
+        &mut self,
+        backend: &B,
+        token: CallToken,
+        reach: Reach,
+    ) -> bool
+        ensures asked { IsTrue result → AsksAhead (B.refuses backend.now) (called_by (B.submits backend.now) (B.finishes backend.now) token) self.old self.new }
+        ensures else_as_before { result ≡ false → IsAsBefore self.old self.new }
+    {
+        let phase = mem::replace(&mut self.phase, Phase::Idle);
+        let Phase::Waits(first, mut later) = phase else {
+            put(&mut self.phase, phase);
+            return false;
+        };
+        if make_room_behind(&mut self.calls, &mut later).is_err() {
+            put(&mut self.phase, Phase::Waits(first, later));
+            return false;
+        }
+        let submit_token = UnsentCall::new().make(token, reach);
+        let (codec, session) = (&mut self.codec, &mut self.session);
+        let Some(request) = ask_next(backend, codec, session, &first, submit_token) else {
+            put(&mut self.phase, Phase::Waits(first, later));
+            return false;
+        };
+        push(&mut later, request);
+        put(&mut self.phase, Phase::Waits(first, later));
+        true
+    }
+
+    /// Keeps a reply in the session until the turn of the call under this number.
+    pub(crate) fn keep<B: AsyncBackend<Session = T>>(
+        &mut self,
+        backend: &B,
+        call: u64,
+        reply: B::Reply,
+    )
+        ensures { self.new ≡ self.old }
+    {
+        backend.keep(&mut self.session, call, reply);
+    }
+
+    /// Returns the reply of the call under this number, if it was kept and a call is under way.
+    pub(crate) fn take_kept<B: AsyncBackend<Session = T>>(
+        &mut self,
+        backend: &B,
+        call: u64,
+    ) -> Option<B::Reply>
+        ensures { self.new ≡ self.old }
+    {
+        match &self.phase {
+            Phase::Waits(..) => backend.take_kept(&mut self.session, call),
+            _ => None,
+        }
+    }
+
+    /// Returns the outcome of the first call that is under way, by the reply of its completion, for
     /// `answer`. The session finishes the call (`AsyncBackend::finish`). Nothing happens in it where
     /// no call is under way.
     #[tactic(auto, using(crate::proofs::SubmittedCalls::finished, crate::proofs::Reportable::reportable_finished))]
@@ -560,14 +771,14 @@ impl<T> ConnectionState<T> {
         ensures codec { self.new.codec ≡ self.old.codec }
         ensures calls { self.new.calls ≡ self.old.calls }
     {
-        let Phase::Waits(request) = &self.phase else {
+        let Phase::Waits(request, _) = &self.phase else {
             drop(reply);
             return Err(Refusal::Closed);
         };
         backend.finish(&mut self.session, request, reply)
     }
 
-    /// Takes the outcome of the call that is under way (`end_turn`). Appends its reply or refusal to
+    /// Takes the outcome of the first call that is under way (`end_turn`). Appends its reply or refusal to
     /// the unsent bytes, and keeps the receipt behind the others. Out of memory for the bytes of the
     /// reply it is over, and nothing is appended. Unchanged where no call is under way.
     pub(crate) fn answer(&mut self, alloc: Global, outcome: Outcome)

@@ -1,9 +1,9 @@
 //! `DoorCalls`: the receipts of a connection's calls, and the reply to a call; for
 //! `connection_state`.
-ghost use Rattle.std.specs.Prelude.{◌≡◌, ◌≤◌, [], ◌∷◌, ◌++◌, length, vec_capacity, OnOk, OnErr};
+ghost use Rattle.std.specs.Prelude.{◌≡◌, ◌≤◌, ◌+◌, [], ◌∷◌, ◌++◌, length, vec_capacity, vec_len, OnOk, OnErr};
 ghost use Rattle.craq_frames.specs.Allowed.{IsAllowed};
 ghost use Rattle.craq_node_invariant.specs.Sound.{IsEncodableAnswer};
-ghost use Rattle.craq_event_loop.specs.Halves.{HasNoRoom, HasRoom};
+ghost use Rattle.craq_event_loop.specs.Halves.{GrowsRoom, HasNoRoom, HasRoom, TakesRoom};
 ghost use Rattle.craq_event_loop.specs.Turns.{IsReplyOf, kept, message_of, reply_of};
 
 use craq_frames::ClientReply;
@@ -86,6 +86,16 @@ impl DoorCalls {
         Ok(())
     }
 
+    /// Makes room for the receipts of this number of calls more. Fails only when out of memory. The
+    /// receipts are unchanged in either case.
+    pub(crate) fn make_room_for(&mut self, count: usize) -> Result<(), AllocError>
+        ensures grows { GrowsRoom self.old self.new }
+        ensures room { OnOk result (vec_len self.new.receipts + count ≤ vec_capacity self.new.receipts) }
+    {
+        self.receipts.reserve(count)?;
+        Ok(())
+    }
+
     /// Keeps the receipt of a call behind the others and returns the reply: the answer, and the
     /// pass that the client has after it, the larger of the pass that it showed and the stamp of
     /// the answer. Takes no memory.
@@ -97,6 +107,7 @@ impl DoorCalls {
         ensures reply { IsReplyOf (message_of receipt.call.asked.node receipt.call.pass receipt.call.ask) result receipt }
         ensures allowed { IsAllowed result }
         ensures receipts { self.new.receipts.items ≡ self.old.receipts.items ++ receipt ∷ [] }
+        ensures takes { TakesRoom self.old self.new }
     {
         let pass = pass_after(receipt.pass(), &receipt);
         self.receipts.push_reserved(receipt);

@@ -46,11 +46,12 @@ impl<S: Socket, T> Connection<S, T> {
         backend.end_bulk();
     }
 
-    /// Reads, takes all steps, waits for the call that they made, and writes. No call is under way
+    /// Reads, takes all steps, waits for the calls that they made, and writes. No call is under way
     /// afterwards.
     #[tactic(auto, using(crate::proofs::OwnThread::on_turn, crate::proofs::OwnThread::written_rests))]
-    fn turn<B: BlockingBackend<Session = T>>(
+    fn turn<R: Wait, B: BlockingBackend<Session = T>>(
         &mut self,
+        rt: &R,
         alloc: Global,
         backend: &B,
         chunk: &mut [u8],
@@ -61,7 +62,7 @@ impl<S: Socket, T> Connection<S, T> {
         self.read(alloc, chunk, 0);
         self.advance(alloc, backend, KEY, FIRST);
         self.take_rest(alloc, backend);
-        self.complete(alloc, backend);
+        self.complete(rt, alloc, backend);
         self.give(0);
     }
 
@@ -92,7 +93,7 @@ impl<S: Socket, T> Connection<S, T> {
         self.read_until_dry();
         let mut chunk = [0u8; READ_SIZE];
         for _ in rt.forever() {
-            self.turn(alloc, backend, &mut chunk);
+            self.turn(rt, alloc, backend, &mut chunk);
             if self.has_ended() {
                 return;
             }

@@ -1,5 +1,5 @@
 -- Steps of a protocol codec: the next message, and the outcome of a reply.
-use Rattle.std.specs.Prelude.{◌≡◌, ◌≤◌, ℕ, List, [], ◌∷◌, ◌++◌, length, Option, None, Some, Result, Ok, Err}
+use Rattle.std.specs.Prelude.{◌≡◌, ◌≤◌, ◌+◌, ◌⊎◌, ℕ, List, [], ◌∷◌, ◌++◌, length, Option, None, Some, Result, Ok, Err}
 use Rattle.std.specs.List.{AllByRecursion}
 use Rattle.craq_names.specs.declared.refusal.Refusal.{Refusal}
 use Rattle.craq_names.specs.declared.refusal.Refusal.TheVariants as refusals
@@ -20,7 +20,7 @@ use Rattle.craq_frames.specs.declared.protocol_codec.CodecEvent.TheVariants.{Ask
 use Rattle.craq_frames.specs.Allowed.{IsAllowed}
 use Rattle.craq_frames.specs.Serving.{messages, refused, RefusesLength}
 
--- the messages behind the one that is asked
+-- the messages that are not asked yet
 abbrev pub waiting : Option Asking → List ClientMessage
 waiting (Some (Many several)) = several.0
 waiting _ = []
@@ -30,19 +30,25 @@ abbrev pub replied : Option Asking → List ClientReply
 replied (Some (Many several)) = several.1
 replied _ = []
 
+-- the number of messages that were asked ahead: before the reply to the one before them
+abbrev pub ahead : Option Asking → ℕ
+ahead (Some (Many several)) = several.2
+ahead _ = 0
+
 -- the payload is of this form
 abbrev pub IsForm : Option Asking → Payload → Type 0
 IsForm None p = ⊥
 IsForm (Some (One version)) p = (m : ClientMessage) × (p ≡ payloads.One version m)
 IsForm (Some (Many several)) p = (ms : List ClientMessage) × (p ≡ payloads.Many ms)
 
--- the payload's first message is asked
+-- the payload's first message is asked, and no other
 pub record IsFirst (asking : Option Asking) (m : ClientMessage) (payload : List ℕ) : Type 0 where
   pub p : Payload
   pub spelled : EncodesPayload p payload
   pub form : IsForm asking p
   pub first : messages p ≡ m ∷ waiting asking
   pub none : replied asking ≡ []
+  pub alone : ahead asking ≡ 0
 
 -- the next step: `rest` is left of the bytes `input`, and the bytes `unsent` are to be written
 abbrev pub Advances : List ℕ → List ℕ → List ℕ → Option Asking → Result CodecEvent Refusal → Type 0
@@ -69,19 +75,41 @@ abbrev pub all_replies : Asking → ClientReply → Answered
 all_replies (One version) r = replies.One version r
 all_replies (Many several) r = replies.Many (several.1 ++ r ∷ [])
 
+-- the reply to the last message: the frame of all replies is unsent
+abbrev pub IsLast : Asking → ClientReply → List ℕ → Option Asking → Type 0
+IsLast asking r unsent new =
+    (reply : List ℕ) × (waiting (Some asking) ≡ []) × (unsent ≡ frame reply) × EncodesAnswered (all_replies asking r) reply × (new ≡ None) × (ahead (Some asking) ≡ 0)
+
+-- the reply to a message before one that was asked ahead
+abbrev pub WasAhead : Asking → ClientReply → List ℕ → Option Asking → Type 0
+WasAhead asking r unsent new =
+    (waiting new ≡ waiting (Some asking)) × (replied new ≡ replied (Some asking) ++ r ∷ []) × ((p : Payload) → IsForm (Some asking) p → IsForm new p) × (unsent ≡ [])
+    × (ahead (Some asking) ≡ ahead new + 1)
+
+-- the first message that waits in a payload of several is taken, to be asked ahead
+abbrev pub IsTakenAhead : Option Asking → Option Asking → ClientMessage → Type 0
+IsTakenAhead old new m =
+    (ws : List ClientMessage) × (rs : List ClientReply) × (k : ℕ) × (old ≡ Some (Many (m ∷ ws, rs, k))) × (new ≡ Some (Many (ws, rs, k + 1)))
+
+-- so it is, or none is
+abbrev pub TakesAhead : Option Asking → Option Asking → Option ClientMessage → Type 0
+TakesAhead old new (Some m) = IsTakenAhead old new m
+TakesAhead old new None = new ≡ old
+
 -- the outcome of a reply: the bytes `unsent` are to be written
 abbrev pub Follows : Option Asking → ClientReply → List ℕ → Option Asking → Result (Option ClientMessage) Refusal → Type 0
 -- the next message of the payload is asked
 Follows (Some asking) r unsent new (Ok (Some m)) =
     (waiting (Some asking) ≡ m ∷ waiting new) × (replied new ≡ replied (Some asking) ++ r ∷ []) × ((p : Payload) → IsForm (Some asking) p → IsForm new p) × (unsent ≡ [])
--- it was the last, and the frame of all replies is unsent
-Follows (Some asking) r unsent new (Ok None) =
-    (reply : List ℕ) × (waiting (Some asking) ≡ []) × (unsent ≡ frame reply) × EncodesAnswered (all_replies asking r) reply × (new ≡ None)
+    × (ahead (Some asking) ≡ 0) × (ahead new ≡ 0)
+-- it was the last, and the frame of all replies is unsent; or the next was asked ahead
+Follows (Some asking) r unsent new (Ok None) = IsLast asking r unsent new ⊎ WasAhead asking r unsent new
 Follows None r unsent new (Ok found) = (found ≡ None) × (unsent ≡ []) × (new ≡ None)
-Follows asking r unsent new (Err refusals.Memory) = unsent ≡ []
+Follows asking r unsent new (Err refusals.Memory) = (unsent ≡ []) × (ahead asking ≡ 0) × (new ≡ None)
 Follows asking r unsent new (Err _) = ⊥
 
--- the outcome of a reply among several messages, of which those `ws` wait and those before have the replies `rs`
-abbrev pub AfterReply : List ClientMessage → List ClientReply → ClientReply → Replied → Type 0
-AfterReply ws rs r (after.Asks m several) = (ws ≡ m ∷ several.0) × (several.1 ≡ rs ++ r ∷ [])
-AfterReply ws rs r (after.All all) = (ws ≡ []) × (all ≡ rs ++ r ∷ []) × (length all ≤ many_limit) × AllByRecursion IsAllowed all
+-- the outcome of a reply among several messages: those that wait, the replies to those before, and the number of those asked ahead
+abbrev pub AfterReply : List ClientMessage × List ClientReply × ℕ → ClientReply → Replied → Type 0
+AfterReply s r (after.Asks m several) = (s.2 ≡ 0) × (s.0 ≡ m ∷ several.0) × (several.1 ≡ s.1 ++ r ∷ []) × (several.2 ≡ 0)
+AfterReply s r (after.Asked several) = (s.2 ≡ several.2 + 1) × (several.0 ≡ s.0) × (several.1 ≡ s.1 ++ r ∷ [])
+AfterReply s r (after.All all) = (s.2 ≡ 0) × (s.0 ≡ []) × (all ≡ s.1 ++ r ∷ []) × (length all ≤ many_limit) × AllByRecursion IsAllowed all

@@ -5,8 +5,8 @@ ghost use Rattle.craq_frames.specs.declared.protocol_codec.Asking.{Asking};
 ghost use Rattle.craq_frames.specs.declared.protocol_codec.CodecEvent.TheVariants.{Ask, Refused};
 ghost use Rattle.craq_frames.specs.Allowed.{IsAllowed, reply_limit};
 ghost use Rattle.craq_frames.specs.Payload.{AskFits, AnswerFits, IsAnswer, EncodesAnswer, EncodesAsk, answer_encoding};
-ghost use Rattle.craq_frames.specs.Steps.{Advances, Follows};
-ghost use Rattle.craq_frames.specs.Talk.{Exchanges, Stands};
+ghost use Rattle.craq_frames.specs.Steps.{Advances, Follows, IsTakenAhead};
+ghost use Rattle.craq_frames.specs.Talk.{Exchanges, Stands, first_now, later_now};
 ghost use Rattle.craq_frames.specs.Typed.{IsTypedAnswer};
 
 use crate::{ClientMessage, ClientReply};
@@ -33,16 +33,19 @@ pub fn allowed_replies_are_short()
 {}
 
 /// Laws: the bytes that a codec makes answer the bytes that came to it. These may come in any
-/// parts; each request that is asked is a turn with the reply that is given back. It has no body:
-/// the contract is the law.
+/// parts; each request that is asked is a turn with the reply that is given back, and requests of one
+/// payload may be asked ahead of the replies before them. It has no body: the contract is the law.
 pub fn codecs_answer()
-    ensures begins { Stands [] [] [] None None [] }
-    ensures received { (read made input more : List ℕ) (a : Option Asking) (m : Option ClientMessage) (turns : Exchanges)
-        → Stands read made input a m turns → Stands (read ++ more) made (input ++ more) a m turns }
+    ensures begins { Stands [] [] [] None None [] [] }
+    ensures received { (read made input more : List ℕ) (a : Option Asking) (m : Option ClientMessage) (later : List ClientMessage) (turns : Exchanges)
+        → Stands read made input a m later turns → Stands (read ++ more) made (input ++ more) a m later turns }
     ensures asked { (read made input rest unsent : List ℕ) (a b : Option Asking) (m : ClientMessage) (turns : Exchanges)
-        → Stands read made input a None turns → Advances input rest unsent b (Ok (Ask m)) → Stands read (made ++ unsent) rest b (Some m) turns }
+        → Stands read made input a None [] turns → Advances input rest unsent b (Ok (Ask m)) → Stands read (made ++ unsent) rest b (Some m) [] turns }
     ensures refused { (read made input rest unsent : List ℕ) (a b : Option Asking) (turns : Exchanges)
-        → Stands read made input a None turns → Advances input rest unsent b (Ok Refused) → Stands read (made ++ unsent) rest b None turns }
-    ensures replied { (read made input unsent : List ℕ) (a b : Option Asking) (m : ClientMessage) (r : ClientReply) (next : Option ClientMessage) (turns : Exchanges)
-        → Stands read made input a (Some m) turns → Follows a r unsent b (Ok next) → Stands read (made ++ unsent) input b next (turns ++ (m, r) ∷ []) }
+        → Stands read made input a None [] turns → Advances input rest unsent b (Ok Refused) → Stands read (made ++ unsent) rest b None [] turns }
+    ensures ahead { (read made input : List ℕ) (a b : Option Asking) (m n : ClientMessage) (later : List ClientMessage) (turns : Exchanges)
+        → Stands read made input a (Some m) later turns → IsTakenAhead a b n → Stands read made input b (Some m) (later ++ n ∷ []) turns }
+    ensures replied { (read made input unsent : List ℕ) (a b : Option Asking) (m : ClientMessage) (later : List ClientMessage) (r : ClientReply) (next : Option ClientMessage) (turns : Exchanges)
+        → Stands read made input a (Some m) later turns → Follows a r unsent b (Ok next)
+        → Stands read (made ++ unsent) input b (first_now next later) (later_now next later) (turns ++ (m, r) ∷ []) }
 {}

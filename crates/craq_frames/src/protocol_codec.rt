@@ -6,7 +6,7 @@ ghost use Rattle.craq_frames.specs.Frame.{frame, payload_limit};
 ghost use Rattle.craq_frames.specs.Versions.{IsPayload, EncodesPayload};
 ghost use Rattle.craq_frames.specs.declared.protocol_codec.CodecEvent.TheVariants.{Ask};
 ghost use Rattle.craq_frames.specs.Allowed.{IsAllowed};
-ghost use Rattle.craq_frames.specs.Steps.{Advances, Follows, IsFirst, Receives};
+ghost use Rattle.craq_frames.specs.Steps.{Advances, Follows, IsFirst, IsTakenAhead, Receives, TakesAhead, ahead};
 
 use crate::buffers::{Buffers, MOST_UNSENT};
 use crate::replying::{make_unsent, refuse};
@@ -20,7 +20,7 @@ use std::alloc::{AllocError, Global};
 /// costs less than decoding them between the reads of other connections.
 const MANY_BYTES: usize = 1_024;
 
-/// The payload whose request is under way.
+/// The payload whose requests are under way.
 #[derive(Drop)]
 pub(crate) enum Asking {
     /// A payload of one request, of this version.
@@ -41,8 +41,8 @@ pub enum CodecEvent {
 }
 
 /// The protocol codec of one connection: the bytes that came and are not yet cut into frames, the
-/// payload that is being answered, and the unsent bytes. At most one request is under way at a
-/// time.
+/// payload that is being answered, and the unsent bytes. Requests of one payload may be under way
+/// together (`take_ahead`).
 #[derive(Drop)]
 pub struct ProtocolCodec {
     /// The bytes that came and are not yet cut off, and the unsent ones.
@@ -208,11 +208,37 @@ impl ProtocolCodec {
         }
     }
 
-    /// Takes the reply to the request that is under way, which a request handler may give. Returns
-    /// the next request of the same payload; after the last, appends the frame of all its replies
-    /// to the unsent bytes. Unchanged where no request is under way.
+    /// Takes the next request of the payload, to ask it ahead: before the reply to the request that
+    /// is under way. `reply` still takes the replies in the order of the requests. `None`, and
+    /// unchanged, where no request waits or when out of memory.
+    pub fn take_ahead(&mut self) -> Option<ClientMessage>
+        ensures takes { TakesAhead self.old.asking self.new.asking result }
+        ensures buffers { self.new.buffers ≡ self.old.buffers }
+    {
+        match &mut self.asking {
+            Some(Asking::Many(several)) => several.take_ahead(),
+            _ => None,
+        }
+    }
+
+    /// Puts the request back that `take_ahead` gave last, which was not asked.
+    pub fn put_back(&mut self, message: ClientMessage)
+        requires { 1 ≤ ahead self.old.asking }
+        ensures back { IsTakenAhead self.new.asking self.old.asking message }
+        ensures buffers { self.new.buffers ≡ self.old.buffers }
+    {
+        if let Some(Asking::Many(several)) = &mut self.asking {
+            several.put_back(message);
+        }
+    }
+
+    /// Takes the reply to the first request that is under way, which a request handler may give.
+    /// Returns the next request of the same payload, unless it was asked ahead; after the last,
+    /// appends the frame of all its replies to the unsent bytes. Unchanged where no request is under
+    /// way.
     ///
-    /// `Memory` where a growth was refused: nothing was appended, and the connection is over.
+    /// `Memory` where a growth was refused: nothing was appended, and the connection is over. No
+    /// request was asked ahead then.
     pub fn reply(&mut self, reply: ClientReply) -> Result<Option<ClientMessage>, Refusal>
         requires { IsAllowed reply }
         ensures follows { (unsent : List ℕ) × (self.new.buffers.output.items ≡ self.old.buffers.output.items ++ unsent)
@@ -245,6 +271,10 @@ impl ProtocolCodec {
             Ok(Replied::Asks(message, several)) => {
                 self.asking = Some(Asking::Many(several));
                 Ok(Some(message))
+            }
+            Ok(Replied::Asked(several)) => {
+                self.asking = Some(Asking::Many(several));
+                Ok(None)
             }
             Ok(Replied::All(replies)) => {
                 make_unsent(&mut self.buffers.output, Answered::Many(replies))?;

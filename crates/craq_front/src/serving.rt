@@ -3,7 +3,7 @@ ghost use Rattle.std.specs.Prelude.{◌≡◌, ◌≢◌, ◌+◌, ◌-◌, ◌^
 ghost use Rattle.std.specs.Io.KnownBytes.{Appends, Consumes, IsAtEnd};
 ghost use Rattle.craq_frames.specs.Frame.{frame};
 ghost use Rattle.craq_frames.specs.Serving.{Replies, Begins, StreamFault, read_faults, write_faults, Conversation, Next, Batch};
-ghost use Rattle.craq_frames.specs.Steps.{IsFirst};
+ghost use Rattle.craq_frames.specs.Steps.{IsFirst, ahead};
 
 use crate::buffers::{ended, fill, flush};
 use crate::{Door, Sink, Source};
@@ -18,6 +18,7 @@ fn answer_payload<D: Door>(
     door: &mut D,
     first: ClientMessage,
 ) -> Result<(), Refusal>
+    requires { ahead codec.old.asking ≡ 0 }
     ensures ok { OnOk result ((payload : List ℕ) → IsFirst codec.old.asking first payload
         → (reply : List ℕ) × (codec.new.buffers.output.items ≡ codec.old.buffers.output.items ++ frame reply)
         × Replies D.turn door.old payload reply door.new) }

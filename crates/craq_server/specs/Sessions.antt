@@ -1,5 +1,8 @@
 -- The session of a connection of a served store, and the calls that it makes and finishes.
-use Rattle.std.specs.Prelude.{◌≡◌, ◌≢◌, ◌⊎◌, ◌+◌, ℕ, List, [], ◌∷◌, Option, None, Some, IsSome, Result, Ok, Err, length}
+use Rattle.std.specs.Prelude.{◌≡◌, ◌≢◌, ◌⊎◌, ◌+◌, ◌-◌, ◌<◌, ⊤, ℕ, zero, suc, List, [], ◌∷◌, ◌++◌, drop, Option, None, Some, Result, Ok, Err, length}
+use Rattle.std.specs.List.{AllByRecursion}
+use Rattle.std.specs.declared.alloc.Global.{Global}
+use Rattle.std.specs.declared.collections.VecDeque.{VecDeque}
 use mathlib.Core.List.{IsPrefix}
 use Rattle.craq_names.specs.Limits.{greatest}
 use Rattle.craq_names.specs.declared.name.NodeName.{NodeName}
@@ -33,16 +36,36 @@ use Rattle.craq_server.specs.Refusing.{Leaps, RefusesServed}
 use Rattle.craq_server.specs.Status.{TellsStatus}
 
 -- the view that contracts have of a connection's session: its client's number, the number of calls that it made, the history that it
--- has seen, and the call that is under way, if there is one
+-- has seen, and the calls that are under way, in the order in which they were made
 pub record Connected : Type 0 where
   pub client : ℕ
   pub made : ℕ
   pub seen : List HistoryEntry
-  pub call : Option CallId
+  pub calls : List CallId
+
+-- this number of calls of a client, from the one under this number on
+abbrev pub numbered : ℕ → ℕ → ℕ → List CallId
+numbered client number zero = []
+numbered client number (suc count) = record { client = client; number = number } ∷ numbered client (number + 1) count
+
+-- the calls of a client from this number on, if there is one, up to the next that it makes
+abbrev pub calls_from : ℕ → Option ℕ → ℕ → List CallId
+calls_from client None next = []
+calls_from client (Some first) next = numbered client first (next - first)
+
+-- the number of the first call that is under way once the call under this number is
+abbrev pub first_with : Option ℕ → ℕ → ℕ
+first_with None number = number
+first_with (Some first) number = first
+
+-- the first call that is under way is not later than the last that was made
+abbrev pub IsUpTo : ℕ → Option ℕ → CallId → ℕ → Type 0
+IsUpTo client None last next = ⊤
+IsUpTo client (Some first) last next = (first < next) × (last ≡ record { client = client; number = next - 1 })
 
 -- the session is new: it made no call and has seen nothing, and no call is under way
 abbrev pub IsNewSession : Connected → Type 0
-IsNewSession s = (s.made ≡ 0) × (s.seen ≡ []) × (s.call ≡ None)
+IsNewSession s = (s.made ≡ 0) × (s.seen ≡ []) × (s.calls ≡ [])
 
 -- the call that the session makes next
 abbrev pub next_call : Connected → CallId
@@ -52,13 +75,22 @@ next_call s = record { client = s.client; number = s.made }
 abbrev pub SeesMore : Connected → Connected → Type 0
 SeesMore old new = (new.client ≡ old.client) × (new.made ≡ old.made) × IsPrefix old.seen new.seen
 
+-- so it is, and the first call that was under way is not any more
+abbrev pub EndsFirst : Connected → Connected → Type 0
+EndsFirst old new = SeesMore old new × (new.calls ≡ drop 1 old.calls)
+
+-- this is the first call that is under way in the session
+abbrev pub IsFirstCall : Connected → CallId → Type 0
+IsFirstCall s call = (later : List CallId) × (s.calls ≡ call ∷ later)
+
 -- it is the session of the same client, which made one call more and has seen at least as much
 abbrev pub CallsOnce : Connected → Connected → Type 0
 CallsOnce old new = (new.client ≡ old.client) × (new.made ≡ old.made + 1) × IsPrefix old.seen new.seen
 
--- the session made its next call, of this request at this node, after all that it had seen, and the call is under way
+-- the session made its next call, of this request at this node, after all that it had seen, and the call is under way behind those
+-- before
 abbrev pub MakesCall : Connected → NodeName → Ask → Connected → Type 0
-MakesCall old node ask new = (new.call ≡ Some (next_call old)) × IsMade old.seen (next_call old) node ask new.seen × CallsOnce old new
+MakesCall old node ask new = (new.calls ≡ old.calls ++ next_call old ∷ []) × IsMade old.seen (next_call old) node ask new.seen × CallsOnce old new
 
 -- the refusals of a request with this pass for which no call is made: the store has no such chain, or memory is out; or the session made
 -- 2 ^ 64 - 1 calls, or the pass lies further above one in earlier replies than a server with this bound allows
@@ -70,25 +102,25 @@ abbrev pub Submits : ℕ → Connected → CallRequest → Option (Result (Resul
 Submits most_leap old q (Some (Err e)) new = RefusesFirst most_leap old q.pass e × (new ≡ old)
 Submits most_leap old q came new = MakesCall old q.node q.ask new
 
--- the session gave up its call that was under way with this pass, which was refused so, and this refusal is reported: it, or Closed. It
+-- the session gave up its first call that was under way with this pass, which was refused so, and this refusal is reported: it, or Closed. It
 -- leaves open whether a step accepted the call; or none does, in the history that the session has seen since or in any that goes on from
 -- it, and the refusal is explained there
 pub record GivesUp (old : Connected) (pass : ℕ) (came reported : Refusal) (new : Connected) : Type 0 where
   pub either : (reported ≡ came) ⊎ (reported ≡ Closed)
-  pub kept : IsSome old.call → LeavesOpen came → reported ≡ came
-  pub untaken : LeavesOpen reported ⊎ ((call : CallId) × (old.call ≡ Some call) × IsGivenUp new.seen call pass reported)
-  pub sees : SeesMore old new
+  pub kept : old.calls ≢ [] → LeavesOpen came → reported ≡ came
+  pub untaken : LeavesOpen reported ⊎ ((call : CallId) × IsFirstCall old call × IsGivenUp new.seen call pass reported)
+  pub ends : EndsFirst old new
 
--- the session finished its call that was under way, at this node, by an answer: in the history that the session has seen since, the node
+-- the session finished its first call that was under way, at this node, by an answer: in the history that the session has seen since, the node
 -- accepted the call and gave the answer, as the receipt says; or it is another call's
 abbrev pub FinishesAnswered : Connected → NodeName → Called → Result Called Refusal → Connected → Type 0
 FinishesAnswered old node reply (Ok c) new =
     (c ≡ reply)
-    × ((call : CallId) × (old.call ≡ Some call) × HasAccepted new.seen node call c.call × HasReplied new.seen node c)
-    × IsHistory new.seen × SeesMore old new
-FinishesAnswered old node reply (Err e) new = (e ≡ Closed) × SeesMore old new
+    × ((call : CallId) × IsFirstCall old call × HasAccepted new.seen node call c.call × HasReplied new.seen node c)
+    × IsHistory new.seen × EndsFirst old new
+FinishesAnswered old node reply (Err e) new = (e ≡ Closed) × EndsFirst old new
 
--- the session finished its call that was under way, at this node with this pass, by its reply: an answer, or a refusal, by which it gave
+-- the session finished its first call that was under way, at this node with this pass, by its reply: an answer, or a refusal, by which it gave
 -- the call up
 abbrev pub Finishes : Connected → NodeName → ℕ → Result Called Refusal → Result Called Refusal → Connected → Type 0
 Finishes old node pass (Ok reply) outcome new = FinishesAnswered old node reply outcome new
@@ -151,19 +183,56 @@ abbrev pub IsReachableAt : Stored → ℕ → ConnectionState Connected → Type
 IsReachableAt store most_leap state =
     IsReachable IsNewSession (TellsStatus store) (λ node pass ask e. RefusesServed (length store.names) node ask e) (called_by (λ (token : CallToken). Submits most_leap) FinishesCall) FinishesCall state
 
--- these turns are witnessed one after another, from the first session to the last
-abbrev pub AreWitnessed : ℕ → Connected → Exchanges → Connected → Type 0
-AreWitnessed most_leap first [] last = last ≡ first
-AreWitnessed most_leap first (turn ∷ later) last =
-    (mid : Connected) × IsWitnessedTurn most_leap first turn.0 turn.1 mid × AreWitnessed most_leap mid later last
+-- these calls are under way: the session made one after another, each after all that it had seen then, and it saw at least as much in
+-- between
+abbrev pub AreUnderWay : Connected → List CallRequest → List CallId → Connected → Type 0
+AreUnderWay old [] [] new = SeesMore old new
+AreUnderWay old (q ∷ qs) (call ∷ calls) new =
+    (asked : Connected) × SeesMore old asked × (call ≡ next_call asked) × HasMade asked q.node q.ask new × AreUnderWay (record asked { made = asked.made + 1 }) qs calls new
+AreUnderWay old qs calls new = ⊥
+
+-- turns whose calls were under way together, and the calls behind them that still are: each call was made after all that the session had
+-- seen then, under the number after that of the call before, and its turn is witnessed in what the session has seen since
+abbrev pub AreTogether : ℕ → Connected → Exchanges → List CallRequest → Connected → Type 0
+AreTogether most_leap old [] qs new = AreUnderWay old qs new.calls new
+AreTogether most_leap old (turn ∷ turns) qs new =
+    (asked : Connected) × (done : Connected) × SeesMore old asked × CallsOnce asked done × IsWitnessedTurn most_leap asked turn.0 turn.1 done × IsPrefix done.seen new.seen
+    × AreTogether most_leap (record asked { made = asked.made + 1 }) turns qs new
+
+-- the message is an update at this node
+abbrev pub IsUpdateAt : NodeName → ClientMessage → Type 0
+IsUpdateAt name (messages.Update node pass update) = name_of node (asks.Update update) ≡ name
+IsUpdateAt name message = ⊥
+
+-- each of these turns is of an update at this node
+abbrev pub AreUpdatesAt : NodeName → Exchanges → Type 0
+AreUpdatesAt name turns = AllByRecursion (λ (turn : ClientMessage × ClientReply). IsUpdateAt name turn.0) turns
+
+-- one turn, or turns of updates at one node
+abbrev pub MayBeTogether : Exchanges → Type 0
+MayBeTogether [] = ⊤
+MayBeTogether (turn ∷ []) = ⊤
+MayBeTogether (turn ∷ turns) = (name : NodeName) × AreUpdatesAt name (turn ∷ turns)
+
+-- the order of turns on which a client can count: they are witnessed one after another, from the first session to the last, each call
+-- after all that the turns before it had seen; only the calls of updates at one node were under way together, and they were made in their
+-- order
+pub data AreWitnessed (most_leap : ℕ) (first : Connected) : Exchanges → Connected → Type 0 where
+  no_turn : AreWitnessed most_leap first [] first
+  one_turn : (turns : Exchanges) (mid last : Connected) (message : ClientMessage) (reply : ClientReply) → AreWitnessed most_leap first turns mid
+      → IsWitnessedTurn most_leap mid message reply last → AreWitnessed most_leap first (turns ++ (message, reply) ∷ []) last
+  together : (turns run : Exchanges) (mid last : Connected) → AreWitnessed most_leap first turns mid → MayBeTogether run
+      → AreTogether most_leap mid run [] last → AreWitnessed most_leap first (turns ++ run) last
 
 -- the bytes `read` came and the bytes `written` went on the connection: with those that are unsent, these are the frames of the replies of
--- its turns. The turns are witnessed. Since then its session made a call if one is under way, and is else as it was: so each of its
--- other calls is in one turn
+-- its turns, `before` and then those of `run`. The turns before are witnessed, up to the session `last`. The calls of the turns
+-- of `run` were under way together with those that still are; where none is, the session is as it was: so each of its calls is in one
+-- turn or under way
 pub record IsWitnessedConnection (most_leap : ℕ) (first : Connected) (read written : List ℕ) (state : ConnectionState Connected) : Type 0 where
-  pub turns : Exchanges
-  pub holds : Holds state.phase state.codec read written turns
+  pub before : Exchanges
+  pub run : Exchanges
+  pub holds : Holds state.phase state.codec read written (before ++ run)
   pub last : Connected
-  pub witnessed : AreWitnessed most_leap first turns last
-  pub waits : (q : CallRequest) → state.phase ≡ Waits q → MakesCall last q.node q.ask state.session
-  pub rests : ((q : CallRequest) → state.phase ≢ Waits q) → state.session ≡ last
+  pub witnessed : AreWitnessed most_leap first before last
+  pub waits : (q : CallRequest) (later : VecDeque CallRequest Global) → state.phase ≡ Waits q later → AreTogether most_leap last run (q ∷ later.items) state.session
+  pub rests : ((q : CallRequest) (later : VecDeque CallRequest Global) → state.phase ≢ Waits q later) → (run ≡ []) × (state.session ≡ last)

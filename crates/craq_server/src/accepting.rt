@@ -256,7 +256,8 @@ where
     pub(crate) fn open_session(&self) -> Result<StoreSession<C>, AllocError>
         ensures { IfOk result (λ s. IsNewSession s) }
     {
-        Ok(StoreSession::new(self.store.open_session(&self.rt)?))
+        let session = self.store.open_session(&self.rt)?;
+        Ok(StoreSession::new(self.alloc, session))
     }
 
     /// Returns the store as the connections of one thread call it, with the thread's completion

@@ -90,6 +90,23 @@ where
         self.backend.submit(session, submit_token, request)
     }
 
+    fn submit_ahead(
+        &self,
+        session: &mut StoreSession<C>,
+        submit_token: SubmitToken,
+        request: &CallRequest,
+    ) -> Result<(), Refusal> {
+        self.backend.submit_ahead(session, submit_token, request)
+    }
+
+    fn keep(&self, session: &mut StoreSession<C>, call: u64, reply: StoreOutcome<C>) {
+        self.backend.keep(session, call, reply);
+    }
+
+    fn take_kept(&self, session: &mut StoreSession<C>, call: u64) -> Option<StoreOutcome<C>> {
+        self.backend.take_kept(session, call)
+    }
+
     fn finish(
         &self,
         session: &mut StoreSession<C>,

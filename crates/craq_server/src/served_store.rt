@@ -20,7 +20,7 @@ use craq_event_loop::{
 use craq_frames::Text;
 use craq_names::Refusal;
 use craq_node::Core;
-use craq_seat::{CallReceipt, Completion, CompletionQueue, pass_after, refusal_of_call};
+use craq_seat::{CallReceipt, CallToken, Completion, CompletionQueue, pass_after, refusal_of_call};
 use craq_workers::{Asked, CallRefusal, Destination, Gate, Named, Store};
 use std::alloc::{AllocError, Global};
 use std::sync::{Arc, Wait};
@@ -111,8 +111,9 @@ where
     /// a new session reached its state.
     ///
     /// **Each call of its session is in one of its turns. Each reply to an update or a read is
-    /// witnessed in the store's history**, after all that the connection had seen before. The bytes of
-    /// these turns came and went on it (`craq_event_loop`).
+    /// witnessed in the store's history**, after all that the connection had seen as its call was made:
+    /// that is what all turns before it had seen, except that updates at one node may be under way
+    /// together (`AreWitnessed`). The bytes of these turns came and went on it (`craq_event_loop`).
     #[tactic(auto, using(crate::proofs::Reached::reachable_witnessed))]
     pub(crate) fn end_connection(&self, state: ConnectionState<StoreSession<C>>) -> Vec<CallReceipt>
         requires { IsReachableAt self.now.store.now self.now.passes.now.leap state }
@@ -173,6 +174,30 @@ where
         self.submit_made(session, request, &submit_token)
     }
 
+    /// Counts the request where its call is made. A reply at once is kept until its turn.
+    #[tactic(auto, using(crate::proofs::Sessions::served_encodable))]
+    fn submit_ahead(
+        &self,
+        session: &mut StoreSession<C>,
+        submit_token: SubmitToken,
+        request: &CallRequest,
+    ) -> Result<(), Refusal> {
+        session.make_room()?;
+        if let Some(reply) = self.submit_made(session, request, &submit_token)? {
+            session.keep(submit_token.token.call, reply);
+        }
+        self.counts.count_ask(&request.ask);
+        Ok(())
+    }
+
+    fn keep(&self, session: &mut StoreSession<C>, call: u64, reply: StoreOutcome<C>) {
+        session.keep(call, reply);
+    }
+
+    fn take_kept(&self, session: &mut StoreSession<C>, call: u64) -> Option<StoreOutcome<C>> {
+        session.take_kept(call)
+    }
+
     fn finish(
         &self,
         session: &mut StoreSession<C>,
@@ -202,12 +227,17 @@ where
         self.bulk_limit.end(&self.rt);
     }
 
-    /// Sleeps until a completion comes into the thread's queue, and returns its reply.
-    fn wait(&self) -> StoreOutcome<C> {
-        let Some(completion) = self.completions.wait(&self.rt) else {
-            return Err(CallRefusal::without_call(Refusal::Closed));
-        };
-        let Completion { token: _, reply } = completion;
-        reply
+    /// Sleeps until a completion comes into the thread's queue, and returns it.
+    fn wait(&self) -> Completion<StoreOutcome<C>> {
+        if let Some(completion) = self.completions.wait(&self.rt) {
+            return completion;
+        }
+        Completion {
+            token: CallToken {
+                connection: 0,
+                call: 0,
+            },
+            reply: Err(CallRefusal::without_call(Refusal::Closed)),
+        }
     }
 }

@@ -1,5 +1,5 @@
 use Rattle.std.proofs.Common.{rules, ◌≡◌, None, Some, ◌∙◌}
-use Rattle.craq_frames.proofs.Answering.{fewer_left, nothing_asked, one_replied, cut_off, all_replied}
+use Rattle.craq_frames.proofs.Answering.{fewer_left, nothing_asked, one_replied, cut_off, all_replied, still_alone}
 use Rattle.craq_frames.proofs.Turning.{always}
 use Rattle.craq_front.proofs.serving.answer_payload.Goals as goal
 
@@ -26,7 +26,8 @@ loop-asked-preserved g c =
           c.reply.new.self.buffers.output.items c.loop-asked.codec.asking c.reply.new.self.asking c.loop-asked.asked c.in_ok-asked.asked c.in-Some.message c.ask-reply.result is
           (c.loop-asked.invariant.0 payload first) c.ask-reply.ensures.turn f.1 f.2,
       c.in_ok-asked.ensures.input ∙ c.loop-asked.invariant.1,
-      λ none. nothing_asked c.loop-asked.codec.asking c.reply.new.self.asking c.ask-reply.result f.0 c.in_ok-asked.asked none f.2,
+      λ none. nothing_asked c.loop-asked.codec.asking c.reply.new.self.asking c.ask-reply.result f.0 c.in_ok-asked.asked none c.loop-asked.invariant.3 f.2,
+      still_alone c.loop-asked.codec.asking c.reply.new.self.asking c.ask-reply.result f.0 c.in_ok-asked.asked c.loop-asked.invariant.3 f.2,
     )
 
 pub returns-clause-ok : goal.returns-clause-ok

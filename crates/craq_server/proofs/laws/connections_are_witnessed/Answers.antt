@@ -5,5 +5,5 @@ use Rattle.craq_server.proofs.Reached.{reached_witnessed}
 use Rattle.craq_server.proofs.laws.connections_are_witnessed.Goals as goal
 
 pub returns : goal.returns
-returns c store most_leap read written first state reached =
-    reached_witnessed most_leap (TellsStatus store) (λ node pass ask e. RefusesServed (length store.names) node ask e) first read written state reached
+returns c store most_leap read written first state fresh reached =
+    reached_witnessed most_leap (TellsStatus store) (λ node pass ask e. RefusesServed (length store.names) node ask e) first fresh read written state reached

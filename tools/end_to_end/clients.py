@@ -1,6 +1,7 @@
 """A client of one connection (tools/plain_client.py): versions 1 and 2, eight clients at once, requests
 that do not wait for replies, lost replies; and the command of clients/python."""
 import os
+import random
 import re
 import socket
 import sys
@@ -24,7 +25,7 @@ from tools.plain_client import (
     Written,
 )
 
-AT_ONCE, ROUNDS = 8, 25
+AT_ONCE, ROUNDS, TOGETHER = 8, 25, 8
 # The id of the command: no other client has it.
 CLIENT = 0xC0DE
 WORKED = [
@@ -185,6 +186,53 @@ def pipeline(checks, server, count=500):
     made.asks += count
     checks.same("what they did", made.ask("read", "pipeline"), Read(count, count.to_bytes(8, "big")))
     made.close()
+
+
+def mixed(server, at, faults):
+    """A client among others, with mixed frames: updates that go together, a retry whose reply comes
+    before its turn, a refusal, and reads that see all updates before them."""
+    made, chosen = None, random.Random(at)
+    try:
+        made = Counted(server, 2)
+        client, key, version, value = made.client, f"mixed{at}", 0, b""
+        head, *others = client.chains[0]["members"]
+        for _ in range(ROUNDS):
+            asks, wanted = [], []
+            while len(asks) < TOGETHER:
+                kind = chosen.choice(["put", "put", "put", "put", "retry", "elsewhere", "read"])
+                if kind == "put":
+                    version, value = version + 1, b"%d" % version
+                    asks.append(client.asks_put(key, value))
+                    wanted.append(Written(version))
+                elif kind == "retry" and version:
+                    asks.append(client.asks_update(0, example.put(0, key, value), None, version))
+                    wanted.append(Written(version))
+                elif kind == "elsewhere":
+                    asks.append(client.asks_update(0, example.put(0, key, b""), others[0], version + 1))
+                    wanted.append((9, head))
+                else:
+                    asks.append(client.asks_read(key))
+                    wanted.append(Read(version, value))
+            told = [(it.number, it.detail) if isinstance(it, Refused) else it for it in made.many(asks)]
+            if told != wanted:
+                faults.append(f"{told} in place of {wanted}")
+    except Exception as failure:
+        faults.append(repr(failure))
+    finally:
+        if made:
+            made.close()
+
+
+def updates_together(checks, server):
+    faults = []
+    threads = [
+        threading.Thread(target=mixed, args=(server, at, faults), daemon=True) for at in range(AT_ONCE)
+    ]
+    for it in threads:
+        it.start()
+    for it in threads:
+        it.join(running.PATIENCE)
+    checks.same("eight clients with mixed frames: faults", faults, [])
 
 
 def one_of_many(server, at, seen, faults):

@@ -71,6 +71,7 @@ def served(checks, craqd, craq):
         checks.part("batches", clients.batches, server)
         checks.part("requests that do not wait", clients.pipeline, server)
         checks.part("clients at once", clients.at_once, server)
+        checks.part("updates that go together", clients.updates_together, server)
         checks.part("faults of craqd", faults.plans, craqd, server.address)
         checks.part("hostile clients", hostile, server)
         checks.part("lost replies", clients.lost_replies, server)

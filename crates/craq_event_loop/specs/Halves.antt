@@ -29,7 +29,7 @@ abbrev pub IsUpdate : Ask → Type 0
 IsUpdate (asks.Update update) = ⊤
 IsUpdate (asks.Read mode object) = ⊥
 
--- the request is an update, as the one that is under way, to its node
+-- both requests are updates, at one node
 abbrev pub GoesAlong : CallRequest → CallRequest → Type 0
 GoesAlong first q = IsUpdate first.ask × IsUpdate q.ask × (q.node ≡ first.node)
 

@@ -17,7 +17,7 @@ use std::alloc::{AllocError, Global};
 pub enum ReceiptPolicy {
     /// All are kept, in order, and handed over at the end.
     KeepAll,
-    /// Each is dropped as the next request begins, and at the end.
+    /// Each is dropped as the next request begins that was not asked ahead, and at the end.
     KeepNone,
 }
 
@@ -27,8 +27,8 @@ pub(crate) struct DoorCalls {
     /// The fate of the receipts of earlier requests.
     pub(crate) policy: ReceiptPolicy,
     /// The receipts of the calls, in order: of all requests where they are kept, else of the last
-    /// one. Only a desk makes receipts, and they are not copied, so one more receipt is that of one
-    /// more call.
+    /// one in its turn and those asked ahead behind it. Only a desk makes receipts, and they are not
+    /// copied, so one more receipt is that of one more call.
     pub(crate) receipts: Vec<CallReceipt>,
 }
 

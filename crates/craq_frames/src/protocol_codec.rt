@@ -221,7 +221,7 @@ impl ProtocolCodec {
         }
     }
 
-    /// Puts the request back that `take_ahead` gave last, which was not asked.
+    /// Puts back the request that `take_ahead` gave last: it is the next that is not asked.
     pub fn put_back(&mut self, message: ClientMessage)
         requires { 1 ≤ ahead self.old.asking }
         ensures back { IsTakenAhead self.new.asking self.old.asking message }

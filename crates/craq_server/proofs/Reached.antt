@@ -161,16 +161,16 @@ update_at q name is named at = update_of q.node.node q.pass q.ask name is (sym n
 same_node : (q : CallRequest) (name : NodeName) → IsNamed q → IsUpdateAt name (asked_by q) → q.node ≡ name
 same_node q name named at = named ∙ name_at q.node.node q.pass q.ask name at
 
-may_be_together : (run : Exchanges) (name : NodeName) → AreUpdatesAt name run → MayBeTogether run
-may_be_together [] name all = tt
-may_be_together (turn ∷ []) name all = tt
-may_be_together (turn ∷ more ∷ run) name all = (name, all)
+may_be_together : (run : Exchanges) (last : ClientMessage × ClientReply) (name : NodeName) → AreUpdatesAt name (run ++ last ∷ []) → MayBeTogether (run ++ last ∷ [])
+may_be_together [] last name all = tt
+may_be_together (turn ∷ []) last name all = (name, all)
+may_be_together (turn ∷ more ∷ run) last name all = (name, all)
 
 -- a run that has its last turn
 ran_together : (q : CallRequest) (later : List CallRequest) (run : Exchanges) (reply : ClientReply) → GoTogether q later run → MayBeTogether (run ++ (asked_by q, reply) ∷ [])
 ran_together q later run reply (inl alone) = subst (λ (x : Exchanges). MayBeTogether (x ++ (asked_by q, reply) ∷ [])) (sym alone.1) tt
 ran_together q later run reply (inr all) =
-    may_be_together (run ++ (asked_by q, reply) ∷ []) q.node (all_more (λ (turn : ClientMessage × ClientReply). IsUpdateAt q.node turn.0) run (asked_by q, reply) all.0 all.1.0)
+    may_be_together run (asked_by q, reply) q.node (all_more (λ (turn : ClientMessage × ClientReply). IsUpdateAt q.node turn.0) run (asked_by q, reply) all.0 all.1.0)
 
 -- the next call of a run
 goes_on_together : (q n : CallRequest) (later rest : List CallRequest) (run : Exchanges) (reply : ClientReply) → later ≡ n ∷ rest → AreNamed later → GoTogether q later run → GoTogether n rest (run ++ (asked_by q, reply) ∷ [])

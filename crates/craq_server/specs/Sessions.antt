@@ -210,7 +210,7 @@ AreUpdatesAt name turns = AllByRecursion (λ (turn : ClientMessage × ClientRepl
 
 -- one turn, or turns of updates at one node
 abbrev pub MayBeTogether : Exchanges → Type 0
-MayBeTogether [] = ⊤
+MayBeTogether [] = ⊥
 MayBeTogether (turn ∷ []) = ⊤
 MayBeTogether (turn ∷ turns) = (name : NodeName) × AreUpdatesAt name (turn ∷ turns)
 
